@@ -1,0 +1,12 @@
+// Formulas of LTL over finite traces, the draft that takes them and the book that a draft is sealed into.
+// Rests on `refusal`.
+// Promises: each call leaves what the definitions of specs/ say, for every argument; a book is always proper.
+mod book;
+mod draft;
+mod node;
+mod put;
+
+pub use book::Book;
+pub use draft::Draft;
+pub use node::Node;
+pub use node::NodePartialEq;
