@@ -17,8 +17,8 @@ use Rattle.intern.specs.declared.descent.End.the-variants.{Here, Gap, Broken}
 use Rattle.intern.specs.Entry.{hung}
 use Rattle.intern.specs.Links.{leaf, child-of, linked}
 use Rattle.intern.specs.Walk.{walk, found-at, lookup}
-use Rattle.intern.specs.Index.{Indexed}
 use Rattle.intern.proofs.Ends.{here-gap, here-broken, gap-broken, same-gap, gap-found, reached-is}
+use Rattle.intern.proofs.Index.{Index}
 use Rattle.intern.proofs.Indexes.{some-none, found-here, started}
 use Rattle.intern.proofs.Walks.{Step, at-item, at-gap, along, astray, step, walk-here, walk-next}
 
@@ -87,7 +87,7 @@ lookup-from alike turns ds n x k len w =
     ap found-at (reached-is alike turns ds (n + 1) x len ∙ subst (λ (m : ℕ). walk alike turns ds m x m 0 0 ≡ Here k) (sym (add-one n)) w)
 
 module _ {R : Type 0} (alike : R → R → Bool) (turns : R → ℕ → Bool) (own : (x : R) → alike x x ≡ true) (cells : List (Cell R)) (n : ℕ) (r : R) where
-  module _ (a : ℕ) (s : Bool) (ix : Indexed alike turns cells n) (w : walk alike turns cells n r n 0 0 ≡ Gap a s) (space : n < length cells) where
+  module _ (a : ℕ) (s : Bool) (ix : Index alike turns cells n) (w : walk alike turns cells n r n 0 0 ≡ Gap a s) (space : n < length cells) where
     abbrev ds : List (Cell R)
     ds = hung cells n r a s
 
@@ -172,7 +172,7 @@ module _ {R : Type 0} (alike : R → R → Bool) (turns : R → ℕ → Bool) (o
         lookup-from alike turns ds n r n fits
         (walk-grown alike turns cells ds n same-item kept r a s (own r) joined (ap (λ (c : Cell R). c .item) (new-cell (leaf r))) n 0 0 filled w)
 
-    pub indexed-hung : Indexed alike turns (hung cells n r a s) (n + 1)
+    pub indexed-hung : Index alike turns (hung cells n r a s) (n + 1)
     indexed-hung =
         record
           { within = fits
@@ -192,7 +192,7 @@ module _ {R : Type 0} (alike : R → R → Bool) (turns : R → ℕ → Bool) (o
           }
 
   -- the first record of all
-  pub indexed-first : n ≡ 0 → n < length cells → Indexed alike turns (set cells n (leaf r)) (n + 1)
+  pub indexed-first : n ≡ 0 → n < length cells → Index alike turns (set cells n (leaf r)) (n + 1)
   indexed-first z space =
       let ds : List (Cell R) = set cells n (leaf r) in
       let new : (e : Cell R) → getD ds n e ≡ leaf r = λ e. getD-set-same cells n (leaf r) e space in

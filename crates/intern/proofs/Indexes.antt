@@ -14,7 +14,8 @@ use Rattle.intern.specs.declared.descent.End.{End}
 use Rattle.intern.specs.declared.descent.End.the-variants.{Here, Gap, Broken}
 use Rattle.intern.specs.Links.{leaf}
 use Rattle.intern.specs.Walk.{walk, reached, found-at, lookup}
-use Rattle.intern.specs.Index.{items, place, Indexed}
+use Rattle.intern.specs.Index.{items, place}
+use Rattle.intern.proofs.Index.{Index}
 use Rattle.intern.proofs.Ends.{here-broken, gap-broken, here-found, gap-found, never-broken, walk-alike, reached-is}
 use Rattle.intern.proofs.Places.{place-at, place-none, length-items, items-at}
 
@@ -64,7 +65,7 @@ module _ {R : Type 0} (alike : R → R → Bool) (turns : R → ℕ → Bool)
           (cases-lt 0 n) in
       ap found-at (reached-is alike turns cells n x len ∙ walks ∙ sym (reached-is alike turns cells n r len))
 
-  module _ (r : R) (ix : Indexed alike turns cells n) where
+  module _ (r : R) (ix : Index alike turns cells n) where
     item-at : (k : ℕ) → k < n → getD (items cells n) k r ≡ getD cells k (leaf r) .item
     item-at k lt = items-at cells n (ix .within) k (leaf r) lt
 
@@ -100,15 +101,6 @@ module _ {R : Type 0} (alike : R → R → Bool) (turns : R → ℕ → Bool)
     pub walks-whole : 0 < n → reached alike turns cells n r ≡ Broken → ⊥
     walks-whole pos e =
         never-broken alike turns cells n r (ix .links) n 0 0 pos (omega arith) (sym (reached-is alike turns cells n r (ix .within)) ∙ e)
-
--- no cells are an index
-pub indexed-none : {R : Type 0} (alike : R → R → Bool) (turns : R → ℕ → Bool) (cells : List (Cell R)) → Indexed alike turns cells 0
-indexed-none alike turns cells =
-    record
-      { within = omega arith
-      ; links = λ k to side e lt c. absurd (omega (arith, lt))
-      ; placed = λ k e lt. absurd (omega (arith, lt))
-      }
 
 -- a gap that was reached is at a filled cell, and the cells go as far
 pub gap-within : {R : Type 0} (alike : R → R → Bool) (turns : R → ℕ → Bool) (cells : List (Cell R)) (n : ℕ) (r : R) (a : ℕ) (s : Bool)

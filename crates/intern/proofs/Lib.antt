@@ -2,6 +2,7 @@ pub mod Walks
 pub mod Descents
 pub mod Ends
 pub mod Places
+pub mod Index
 pub mod Indexes
 pub mod Growth
 pub mod Settling

@@ -23,6 +23,7 @@ use Rattle.intern.specs.Index.{items, place, Indexed}
 use Rattle.intern.specs.Settled.{slot-of, count-after, items-after, Settled}
 use Rattle.intern.proofs.Ends.{gap-found, reached-is}
 use Rattle.intern.proofs.Growth.{linked-item, indexed-hung, indexed-first}
+use Rattle.intern.proofs.Index.{Index, to-index, from-index}
 use Rattle.intern.proofs.Indexes.{lookup-place, walks-whole}
 
 module _ {R : Type 0} (cells : List (Cell R)) (n : ℕ) (r : R) where
@@ -56,7 +57,10 @@ module _ {R : Type 0} (alike : R → R → Bool) (turns : R → ℕ → Bool)
          (symmetric : (x y : R) → alike x y ≡ true → alike y x ≡ true)
          (transitive : (x y z : R) → alike x y ≡ true → alike y z ≡ true → alike x z ≡ true)
          (agree : (x y : R) → alike x y ≡ true → (d : ℕ) → turns x d ≡ turns y d)
-         (cells : List (Cell R)) (n : ℕ) (r : R) (ix : Indexed alike turns cells n) where
+         (cells : List (Cell R)) (n : ℕ) (r : R) (indexed-cells : Indexed alike turns cells n) where
+
+  ix : Index alike turns cells n
+  ix = to-index alike turns cells n indexed-cells
 
   abbrev Done : Slot → List (Cell R) → Type 0
   Done s ds = Settled alike turns cells n r s ds
@@ -71,13 +75,13 @@ module _ {R : Type 0} (alike : R → R → Bool) (turns : R → ℕ → Bool)
   found k e =
       record
         { slot-is = ap (λ (o : Option ℕ). slot-of o n (length cells)) (sym e)
-        ; items-are = refl; indexed = ix; same-length = refl; rest-kept = refl }
+        ; items-are = refl; indexed = indexed-cells; same-length = refl; rest-kept = refl }
 
   full : at-place ≡ None → room n (length cells) ≡ false → Done Full cells
   full e no-room =
       record
         { slot-is = sym (ap (λ (o : Option ℕ). slot-of o n (length cells)) e ∙ cond-false _ _ _ no-room)
-        ; items-are = refl; indexed = ix; same-length = refl; rest-kept = refl }
+        ; items-are = refl; indexed = indexed-cells; same-length = refl; rest-kept = refl }
 
   added : (ds : List (Cell R)) → at-place ≡ None → room n (length cells) ≡ true → items ds (n + 1) ≡ items cells n ++ r ∷ []
       → Indexed alike turns ds (n + 1) → length ds ≡ length cells → drop (n + 1) ds ≡ drop (n + 1) cells → Done (Added n) ds
@@ -94,7 +98,7 @@ module _ {R : Type 0} (alike : R → R → Bool) (turns : R → ℕ → Bool)
   done-first z true e =
       done-at _ (Added n) _ (set cells n (leaf r)) (cond-true _ _ _ e) (cond-true _ _ _ e)
       (added (set cells n (leaf r)) (ap (λ (m : ℕ). place alike r (items cells m)) z) e (items-put cells n r (space e))
-        (indexed-first alike turns own cells n r z (space e)) (length-set cells n (leaf r))
+        (from-index alike turns _ _ (indexed-first alike turns own cells n r z (space e))) (length-set cells n (leaf r))
         (drop-set-lt (n + 1) cells n (leaf r) (omega arith)))
   done-first z false e =
       done-at _ Full _ cells (cond-false _ _ _ e) (cond-false _ _ _ e) (full (ap (λ (m : ℕ). place alike r (items cells m)) z) e)
@@ -109,7 +113,7 @@ module _ {R : Type 0} (alike : R → R → Bool) (turns : R → ℕ → Bool)
       let gap = gap-found alike turns cells n r n 0 0 a s pos w in
       done-at _ (Added n) _ (hung cells n r a s) (cond-true _ _ _ has-room) (cond-true _ _ _ has-room)
       (added (hung cells n r a s) (none-there a s e) has-room (items-hung cells n r a s (gap .0) (space has-room))
-        (indexed-hung alike turns own cells n r a s ix w (space has-room))
+        (from-index alike turns _ _ (indexed-hung alike turns own cells n r a s ix w (space has-room)))
         (length-set (set cells n (leaf r)) a _ ∙ length-set cells n (leaf r))
         (drop-set-lt (n + 1) (set cells n (leaf r)) a _ (omega (arith, gap .0)) ∙ drop-set-lt (n + 1) cells n (leaf r) (omega arith)))
   done-gap pos a s e false no-room =

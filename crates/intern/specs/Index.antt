@@ -1,13 +1,13 @@
 -- When the links of cells are an index of their items.
-use mathlib.Core.Bool.{Bool, cond}
+use mathlib.Core.Bool.{Bool, true, false, cond, _&&_}
 use mathlib.Core.List.{List, [], _∷_, map}
 use mathlib.Core.Path.{_≡_}
-use Prim.Native.Nat.{ℕ, suc, _<_, _≤_}
-use lib.ListN.{length, getD, take}
+use Prim.Native.Nat.{ℕ, suc}
+use lib.Dec.{leb, ltb, eqb}
+use lib.ListN.{length, take}
 use Rattle.std.specs.declared.option.Option.{Option}
 use Rattle.std.specs.declared.option.Option.the-variants.{Some, None}
 use Rattle.intern.specs.declared.cell.Cell.{Cell}
-use Rattle.intern.specs.Links.{child-of}
 use Rattle.intern.specs.Walk.{lookup}
 
 -- the items of the first n cells
@@ -24,9 +24,27 @@ abbrev pub place : {R : Type 0} → (R → R → Bool) → R → List R → Opti
 place alike r [] = None
 place alike r (x ∷ xs) = cond (alike x r) (Some 0) (further (place alike r xs))
 
--- The links of the first n cells are an index: each leads to a later cell among them,
+-- a link from cell k is missing, or leads to a later cell among the first n
+abbrev pub leads-on : (n k : ℕ) → Option ℕ → Bool
+leads-on n k (Some to) = ltb k to && ltb to n
+leads-on n k None = true
+
+-- what was found is cell k
+abbrev pub is-cell : (k : ℕ) → Option ℕ → Bool
+is-cell k (Some j) = eqb j k
+is-cell k None = false
+
+-- the links of cell k lead on, and the walk for its own item comes to it
+abbrev pub cell-indexed : {R : Type 0} → (R → R → Bool) → (R → ℕ → Bool) → List (Cell R) → (n k : ℕ) → Cell R → Bool
+cell-indexed alike turns cells n k c =
+    leads-on n k (c .left) && (leads-on n k (c .right) && is-cell k (lookup alike turns cells n (c .item)))
+
+-- the same of each cell of a list, from cell k on
+unfoldable pub indexed-from : {R : Type 0} → (R → R → Bool) → (R → ℕ → Bool) → List (Cell R) → (n k : ℕ) → List (Cell R) → Bool
+indexed-from alike turns cells n k [] = true
+indexed-from alike turns cells n k (c ∷ cs) = cell-indexed alike turns cells n k c && indexed-from alike turns cells n (suc k) cs
+
+-- The links of the first n cells are an index of their items: each link leads to a later cell among them,
 -- and the walk for a cell's own item comes to that cell.
-pub record Indexed {R : Type 0} (alike : R → R → Bool) (turns : R → ℕ → Bool) (cells : List (Cell R)) (n : ℕ) : Type 0 where
-  pub within : n ≤ length cells
-  pub links : (k to : ℕ) (side : Bool) (e : Cell R) → k < n → child-of (getD cells k e) side ≡ Some to → (k < to) × (to < n)
-  pub placed : (k : ℕ) (e : Cell R) → k < n → lookup alike turns cells n (getD cells k e .item) ≡ Some k
+abbrev pub Indexed : {R : Type 0} → (R → R → Bool) → (R → ℕ → Bool) → List (Cell R) → (n : ℕ) → Type 0
+Indexed alike turns cells n = (leb n (length cells) && indexed-from alike turns cells n 0 (take n cells)) ≡ true
