@@ -55,5 +55,6 @@ further-below None k n below e = let z : _≡_ {A = ℕ} 0 1 = cc in absurd (ome
 pub place-below : {R : Type 0} (alike : R → R → Bool) (r : R) (xs : List R) (k : ℕ) → place alike r xs ≡ Some k → k < length xs
 place-below alike r [] k e = let z : _≡_ {A = ℕ} 0 1 = cc in absurd (omega arith)
 place-below alike r (x ∷ xs) k e = elim (cases-bool (alike x r)) [
-    inl is ↦ (let here : Some 0 ≡ Some k = sym (cond-true _ _ _ is) ∙ e in let z : 0 ≡ k = cc in omega arith)
-  | inr isnt ↦ further-below (place alike r xs) k (length xs) (λ j p. place-below alike r xs j p) (sym (cond-false _ _ _ isnt) ∙ e) ]
+  | inl is ↦ (let here : Some 0 ≡ Some k = sym (cond-true _ _ _ is) ∙ e in let z : 0 ≡ k = cc in omega arith)
+  | inr isnt ↦ further-below (place alike r xs) k (length xs) (λ j p. place-below alike r xs j p) (sym (cond-false _ _ _ isnt) ∙ e)
+]

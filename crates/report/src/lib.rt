@@ -8,5 +8,5 @@ mod stands;
 
 pub use kept::kept_line;
 pub use refused::refused_line;
-pub use stands::stands_line;
 pub use standing::Standing;
+pub use stands::stands_line;
