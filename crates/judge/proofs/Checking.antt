@@ -1,24 +1,23 @@
 -- What the check of a history says.
-use mathlib.Core.Bool.{true, false, cond, _&&_}
-use mathlib.Core.List.{List, [], _∷_}
-use mathlib.Core.Path.{_≡_, sym, ap, subst, _∙_}
+use mathlib.Core.Bool.{true}
+use mathlib.Core.List.{List}
+use mathlib.Core.Path.{_≡_, sym, ap, _∙_}
 use mathlib.Core.Logic.{⊎-elim}
-use Prim.Native.Nat.{ℕ, zero, suc, _+_, _≤_, _<_}
+use Prim.Native.Nat.{ℕ, suc, _≤_, _<_}
 use native.Mathlib.Omega.{arith}
 use lib.Dec.{ltb}
-use lib.ListN.{length, getD}
-use Rattle.std.proofs.shelf.Tests.{cases-lt, ltb-true, lt-ltb, and-parts}
+use lib.ListN.{length}
+use Rattle.std.proofs.shelf.Tests.{cases-lt, ltb-true, lt-ltb}
 use Rattle.std.proofs.shelf.Ways.{tells}
-use Rattle.std.specs.declared.result.Result.the-variants.{Ok, Err}
+use Rattle.std.specs.declared.result.Result.the-variants.{Ok}
 use Rattle.theory.specs.Meaning.{Meaning, next-exists}
 use Rattle.theory.specs.declared.next.Next.{Next}
-use Rattle.theory.specs.declared.next.Next.the-variants.{Code, Last}
 use Rattle.ltlf.specs.Contents.{Contents, Proper}
 use Rattle.ltlf.specs.Nodes.{known}
 use Rattle.ltlf.specs.declared.node.Node.{Node}
 use Rattle.judge.specs.Formulas.{node-at}
 use Rattle.judge.specs.Histories.{visit, after}
-use Rattle.judge.specs.Judging.{all-codes, same-counts, judge-check}
+use Rattle.judge.specs.Judging.{all-codes, judge-check}
 use Rattle.judge.proofs.Tests.{pass-at}
 use Rattle.judge.proofs.Histories.{after-code, after-last}
 

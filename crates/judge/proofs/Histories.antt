@@ -1,10 +1,8 @@
 -- What comes after a visit.
-use mathlib.Core.Path.{_≡_, ap, _∙_}
+use mathlib.Core.Path.{_≡_, ap}
 use mathlib.Core.List.{List}
-use Prim.Native.Nat.{ℕ, suc, _+_, _≤_, _<_}
-use native.Mathlib.Numerals.{add-one}
-use native.Mathlib.Omega.{arith}
-use lib.ListN.{length, getD, drop}
+use Prim.Native.Nat.{ℕ, suc, _≤_, _<_}
+use lib.ListN.{length}
 use Rattle.std.proofs.shelf.Lists.{drop-more, drop-all}
 use Rattle.theory.specs.declared.next.Next.the-variants.{Code, Last}
 use Rattle.judge.specs.Histories.{visit, first, after}

@@ -1,9 +1,9 @@
 -- A node's mark is right where the marks of its operands are.
-use mathlib.Core.Path.{_≡_, refl, sym, subst, _∙_, ap}
+use mathlib.Core.Path.{_≡_, refl, sym, subst, ap}
 use mathlib.Core.Bool.{Bool, true, false, not, _&&_, _||_}
-use mathlib.Core.List.{List, [], _∷_}
+use mathlib.Core.List.{List}
 use mathlib.Core.Logic.{_⊎_, inl, inr, ⊎-elim}
-use Prim.Native.Nat.{ℕ, suc, _+_, _≤_, _<_}
+use Prim.Native.Nat.{ℕ, suc, _≤_, _<_}
 use native.Mathlib.Omega.{arith}
 use lib.ListN.{length}
 use Rattle.std.specs.Orderings.{Decides}
@@ -14,7 +14,7 @@ use Rattle.ltlf.specs.Nodes.{operands}
 use Rattle.ltlf.specs.Contents.{Contents, Proper}
 use Rattle.ltlf.specs.declared.node.Node.{Node}
 use Rattle.ltlf.specs.declared.node.Node.the-variants.{True, False, Atom, NotAtom, And, Or, Tomorrow, WeakTomorrow, Until, Release}
-use Rattle.judge.specs.Formulas.{Formula, formed, node-at, formula, Among, until, release}
+use Rattle.judge.specs.Formulas.{Formula, formed, node-at, formula, Among, release}
 use Rattle.judge.specs.Histories.{visit, after}
 use Rattle.judge.specs.Holding.{Holds}
 use Rattle.judge.specs.Marks.{marked, is-last, node-held}

@@ -14,7 +14,7 @@ use Rattle.theory.specs.Meaning.{Meaning}
 use Rattle.theory.specs.declared.next.Next.{Next}
 use Rattle.ltlf.specs.Contents.{Contents, Proper}
 use Rattle.ltlf.specs.declared.node.Node.{Node}
-use Rattle.judge.specs.Formulas.{Formula, node-at, formula}
+use Rattle.judge.specs.Formulas.{node-at, formula}
 use Rattle.judge.specs.Histories.{visit, after}
 use Rattle.judge.specs.Holding.{Holds}
 use Rattle.judge.specs.Marks.{marked, node-held, Marks-below, Marks}

@@ -1,5 +1,5 @@
 -- What the judge answers.
-use mathlib.Core.Bool.{Bool, true, false, cond, _&&_}
+use mathlib.Core.Bool.{Bool, true, cond, not, _&&_}
 use mathlib.Core.List.{List, [], _∷_}
 use mathlib.Core.Path.{_≡_}
 use Prim.Native.Nat.{ℕ}
@@ -32,16 +32,16 @@ same-counts m b = eqb (b .codes) (m .codes) && eqb (b .atoms) (m .atoms)
 abbrev pub judge-check : Meaning → Contents → List ℕ → Result (Unit {0}) Refusal
 judge-check m b σ =
     cond (eqb (length σ) 0) (Err NothingKept)
-    (cond (same-counts m b)
-    (cond (all-codes (m .codes) σ) (Ok tt) (Err BadVisitList))
-    (Err CountsDiffer))
+    (cond (not (same-counts m b)) (Err CountsDiffer)
+    (cond (not (all-codes (m .codes) σ)) (Err BadVisitList)
+    (Ok tt)))
 
 -- an answer's refusal, if it has one
 abbrev pub refusal-of : Result Judgement Refusal → Result (Unit {0}) Refusal
 refusal-of (Ok j) = Ok tt
 refusal-of (Err e) = Err e
 
--- The judge refuses exactly what the check refuses, and in the same words;
+-- The judge refuses exactly what the check refuses, with the same refusal;
 -- else it answers `Met` exactly when the history meets the book, and `Unmet` exactly when it fails the book.
 pub record Judged (m : Meaning) (b : Contents) (σ : List ℕ) (r : Result Judgement Refusal) : Type 0 where
   pub refused : refusal-of r ≡ judge-check m b σ

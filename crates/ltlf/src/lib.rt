@@ -5,8 +5,10 @@ mod book;
 mod draft;
 mod node;
 mod put;
+mod read;
 
 pub use book::Book;
 pub use draft::Draft;
 pub use node::Node;
 pub use node::NodePartialEq;
+pub use read::books_are_proper;

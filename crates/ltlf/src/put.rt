@@ -1,7 +1,6 @@
-// The calls of drafts and books.
+// The calls of a draft.
 ghost use mathlib.Core.Path.{_≡_};
-ghost use lib.ListN.{length};
-ghost use Rattle.ltlf.specs.Contents.{draft-contents, book-contents, empty, counts-answer, counts-leave, rule-answer, rule-leaves, node-answer, rule-at, Books-are-proper};
+ghost use Rattle.ltlf.specs.Contents.{draft-contents, book-contents, empty, counts-answer, counts-leave, rule-answer, rule-leaves, among};
 use super::book::Book;
 use super::draft::Draft;
 use super::node::Node;
@@ -40,73 +39,40 @@ impl Draft {
         }
     }
 
+    /// Whether a formula was named a rule.
+    fn is_rule(&self, formula: u8) -> bool
+        ensures { λ r. ⌜ r ≡ among formula (draft-contents (now (self .entry)) .rules) ⌝ }
+    {
+        for i in 0..self.named {
+            if self.rules[i as usize] == formula {
+                return true;
+            }
+        }
+        false
+    }
+
+    /// Names a formula a rule; naming it again changes nothing.
+    ///
+    /// Errors: 2 where the formula was not put; the draft is unchanged.
+    pub fn name_rule(&mut self, formula: u8) -> Result<(), Refusal>
+        ensures answer { λ r. ⌜ r ≡ rule-answer (draft-contents (now (self .entry))) formula ⌝ }
+        ensures after { λ _. ⌜ draft-contents (now (self .exit)) ≡ rule-leaves (draft-contents (now (self .entry))) formula ⌝ }
+    {
+        if formula >= self.len {
+            return Err(Refusal::Unknown);
+        }
+        if self.is_rule(formula) {
+            return Ok(());
+        }
+        self.rules[self.named as usize] = formula;
+        self.named += 1;
+        Ok(())
+    }
+
     /// Seals the draft into a book of the same contents.
     pub fn seal(self) -> Book
         ensures { λ r. ⌜ book-contents r ≡ draft-contents self ⌝ }
     {
         Book { sealed: self }
     }
-}
-
-impl Book {
-    /// The number of codes.
-    pub fn code_count(&self) -> u16
-        ensures { λ r. ⌜ r ≡ book-contents (now (self .entry)) .codes ⌝ }
-    {
-        self.sealed.codes
-    }
-
-    /// The number of atoms.
-    pub fn atom_count(&self) -> u8
-        ensures { λ r. ⌜ r ≡ book-contents (now (self .entry)) .atoms ⌝ }
-    {
-        self.sealed.atoms
-    }
-
-    /// The number of formulas.
-    pub fn formula_count(&self) -> u8
-        ensures { λ r. ⌜ r ≡ length (book-contents (now (self .entry)) .nodes) ⌝ }
-    {
-        self.sealed.len
-    }
-
-    /// The formula of a number.
-    ///
-    /// Errors: 2 where no formula has the number.
-    pub fn node(&self, number: u8) -> Result<Node, Refusal>
-        ensures { λ r. ⌜ r ≡ node-answer (book-contents (now (self .entry))) number ⌝ }
-    {
-        if number < self.sealed.len {
-            Ok(self.sealed.nodes[number as usize])
-        } else {
-            Err(Refusal::Unknown)
-        }
-    }
-
-    /// The number of rules.
-    pub fn rule_count(&self) -> u8
-        ensures { λ r. ⌜ r ≡ length (book-contents (now (self .entry)) .rules) ⌝ }
-    {
-        self.sealed.named
-    }
-
-    /// The rule at a place of the order in which rules were first named.
-    ///
-    /// Errors: 2 where there is none.
-    pub fn rule(&self, place: u8) -> Result<u8, Refusal>
-        ensures { λ r. ⌜ r ≡ rule-at (book-contents (now (self .entry))) place ⌝ }
-    {
-        if place < self.sealed.named {
-            Ok(self.sealed.rules[place as usize])
-        } else {
-            Err(Refusal::Unknown)
-        }
-    }
-}
-
-/// Every book is proper.
-pub fn books_are_proper() -> u8
-    ensures { λ _. ⌜ Books-are-proper ⌝ }
-{
-    0
 }
