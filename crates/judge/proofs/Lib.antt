@@ -1,0 +1,11 @@
+pub mod Bits
+pub mod Trees
+pub mod Unfolding
+pub mod Deciding
+pub mod Histories
+pub mod Marking
+pub mod Reading
+pub mod Tests
+pub mod Checking
+pub mod Passing
+pub mod Verdicts

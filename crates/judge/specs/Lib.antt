@@ -1,0 +1,5 @@
+pub mod Formulas
+pub mod Histories
+pub mod Holding
+pub mod Marks
+pub mod Judging
