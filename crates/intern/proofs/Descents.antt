@@ -24,10 +24,10 @@ module _ {R : Type 0} (alike : R → R → Bool) (turns : R → ℕ → Bool) (c
       ∙ sym (cond-true _ _ _ (le-leb n (length cells) len))
 
 module _ {R : Type 0} (alike : R → R → Bool) (turns : R → ℕ → Bool) (cells : List (Cell R)) (n : ℕ) (r : R)
-         (at d : ℕ) (here : Cell R) (end : End)
-         (deep : d ≤ at) (below : at < n) (len : n ≤ length cells)
-         (from : walk alike turns cells n r (n - d) at d ≡ end)
-         (is : here ≡ getD cells at here) where
+    (at d : ℕ) (here : Cell R) (end : End)
+    (deep : d ≤ at) (below : at < n) (len : n ≤ length cells)
+    (from : walk alike turns cells n r (n - d) at d ≡ end)
+    (is : here ≡ getD cells at here) where
   read : here ≡ getD cells at (leaf r)
   read = getD-read cells at here (omega arith) is (leaf r)
 

@@ -37,40 +37,44 @@ module _ {R : Type 0} (alike : R → R → Bool) (turns : R → ℕ → Bool) (c
   pub here-found : (f at d k : ℕ) → at < n → walk alike turns cells n r f at d ≡ Here k → (k < n) × (alike (getD cells k (leaf r) .item) r ≡ true)
   here-found zero at d k lt e = absurd (here-broken _ k e refl)
   here-found (suc f) at d k lt e =
-      elim (step alike turns cells n r f at d)
-        [ at-item yes-item w ↦
+      elim (step alike turns cells n r f at d) [
+        | at-item yes-item w ↦
             let same : at ≡ k = same-here _ at k w e in
             (omega arith, subst (λ (x : ℕ). alike (getD cells x (leaf r) .item) r ≡ true) same yes-item)
         | at-gap no-item none w ↦ absurd (here-gap _ k at (turns r d) e w)
         | along to no-item some up below w ↦ here-found f to (suc d) k below (sym w ∙ e)
-        | astray to no-item some off w ↦ absurd (here-broken _ k e w) ]
+        | astray to no-item some off w ↦ absurd (here-broken _ k e w)
+      ]
 
   -- a gap is a missing link of a filled cell
   pub gap-found : (f at d a : ℕ) (s : Bool) → at < n → walk alike turns cells n r f at d ≡ Gap a s → (a < n) × (child-of (getD cells a (leaf r)) s ≡ None)
   gap-found zero at d a s lt e = absurd (gap-broken _ a s e refl)
   gap-found (suc f) at d a s lt e =
-      elim (step alike turns cells n r f at d)
-        [ at-item yes-item w ↦ absurd (here-gap _ at a s w e)
+      elim (step alike turns cells n r f at d) [
+        | at-item yes-item w ↦ absurd (here-gap _ at a s w e)
         | at-gap no-item none w ↦
-            let same = same-gap _ at a (turns r d) s w e in
-            ( omega (arith, same .0)
-            , subst (λ (x : ℕ). child-of (getD cells x (leaf r)) s ≡ None) (same .0)
-              (subst (λ (b : Bool). child-of (getD cells at (leaf r)) b ≡ None) (same .1) none))
+            let same = same-gap _ at a (turns r d) s w e in (
+              omega (arith, same .0),
+              subst (λ (x : ℕ). child-of (getD cells x (leaf r)) s ≡ None) (same .0)
+                  (subst (λ (b : Bool). child-of (getD cells at (leaf r)) b ≡ None) (same .1) none),
+            )
         | along to no-item some up below w ↦ gap-found f to (suc d) a s below (sym w ∙ e)
-        | astray to no-item some off w ↦ absurd (gap-broken _ a s e w) ]
+        | astray to no-item some off w ↦ absurd (gap-broken _ a s e w)
+      ]
 
   -- where every link leads to a later filled cell, no walk breaks off
   pub never-broken : ((k to : ℕ) (side : Bool) (e : Cell R) → k < n → child-of (getD cells k e) side ≡ Some to → (k < to) × (to < n))
       → (f at d : ℕ) → at < n → n ≤ at + f → walk alike turns cells n r f at d ≡ Broken → ⊥
   never-broken links zero at d lt enough e = absurd (omega arith)
   never-broken links (suc f) at d lt enough e =
-      elim (step alike turns cells n r f at d)
-        [ at-item yes-item w ↦ here-broken _ at w e
+      elim (step alike turns cells n r f at d) [
+        | at-item yes-item w ↦ here-broken _ at w e
         | at-gap no-item none w ↦ gap-broken _ at (turns r d) w e
         | along to no-item some up below w ↦ never-broken links f to (suc d) below (omega arith) (sym w ∙ e)
         | astray to no-item some off w ↦
             let p = links at to (turns r d) (leaf r) lt some in
-            both-ways _ off (and-from _ _ (lt-ltb at to (p .0)) (lt-ltb to n (p .1))) ]
+            both-ways _ off (and-from _ _ (lt-ltb at to (p .0)) (lt-ltb to n (p .1)))
+      ]
 
   module _ (x : R) (same-items : (y : R) → alike y x ≡ alike y r) (same-turns : (d : ℕ) → turns x d ≡ turns r d) (len : n ≤ length cells) where
     cell-is : (at : ℕ) → at < n → getD cells at (leaf r) ≡ getD cells at (leaf x)
@@ -86,14 +90,15 @@ module _ {R : Type 0} (alike : R → R → Bool) (turns : R → ℕ → Bool) (c
     pub walk-alike : (f at d : ℕ) → at < n → walk alike turns cells n x f at d ≡ walk alike turns cells n r f at d
     walk-alike zero at d lt = refl
     walk-alike (suc f) at d lt =
-        elim (step alike turns cells n r f at d)
-          [ at-item yes-item w ↦ walk-here alike turns cells n x f at d (item-is at true lt yes-item) ∙ sym w
+        elim (step alike turns cells n r f at d) [
+          | at-item yes-item w ↦ walk-here alike turns cells n x f at d (item-is at true lt yes-item) ∙ sym w
           | at-gap no-item none w ↦
               walk-gap alike turns cells n x f at d (item-is at false lt no-item) (child-is at d None lt none) ∙ ap (Gap at) (same-turns d) ∙ sym w
           | along to no-item some up below w ↦
               walk-next alike turns cells n x f at d to (item-is at false lt no-item) (child-is at d (Some to) lt some) up below
               ∙ walk-alike f to (suc d) below ∙ sym w
-          | astray to no-item some off w ↦ walk-off alike turns cells n x f at d to (item-is at false lt no-item) (child-is at d (Some to) lt some) off ∙ sym w ]
+          | astray to no-item some off w ↦ walk-off alike turns cells n x f at d to (item-is at false lt no-item) (child-is at d (Some to) lt some) off ∙ sym w
+        ]
 
 -- among n cells the walk is not cut off
 pub reached-is : {R : Type 0} (alike : R → R → Bool) (turns : R → ℕ → Bool) (cells : List (Cell R)) (n : ℕ) (r : R)

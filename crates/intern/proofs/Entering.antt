@@ -18,6 +18,7 @@ pub hangs : {R : Type 0} (cells : List (Cell R)) (n : ℕ) (r : R) (at : ℕ) (s
     → (Added n ≡ new-slot n (length cells)) × (set (set cells n new) at above ≡ with-hung cells n r at side)
 hangs cells n r at side here above new lt fits below is above-is new-is =
     let has-room = and-from _ _ (lt-ltb n (length cells) lt) (lt-ltb n (2 ^ 32) fits) in
-    let read : here ≡ getD cells at (leaf r) = getD-read cells at here (omega arith) is (leaf r) in
-    ( sym (cond-true _ _ _ has-room)
-    , ap₂ (λ x y. set (set cells n x) at y) new-is (above-is ∙ ap (λ c. linked c side n) read) ∙ sym (cond-true _ _ _ has-room))
+    let read : here ≡ getD cells at (leaf r) = getD-read cells at here (omega arith) is (leaf r) in (
+      sym (cond-true _ _ _ has-room),
+      ap₂ (λ x y. set (set cells n x) at y) new-is (above-is ∙ ap (λ c. linked c side n) read) ∙ sym (cond-true _ _ _ has-room),
+    )

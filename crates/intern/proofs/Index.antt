@@ -53,7 +53,7 @@ module _ {R : Type 0} (alike : R → R → Bool) (turns : R → ℕ → Bool) (c
       and-from _ _
       (subst (λ (x : ℕ). cell-indexed alike turns cells n x c ≡ true) (let z : k + 0 ≡ k = omega arith in z) (h 0 c (omega arith)))
       (from-each (suc k) cs (λ j e lt.
-        subst (λ (x : ℕ). cell-indexed alike turns cells n x (getD cs j e) ≡ true) (let z : k + suc j ≡ suc k + j = omega arith in z) (h (suc j) e (omega arith))))
+      subst (λ (x : ℕ). cell-indexed alike turns cells n x (getD cs j e) ≡ true) (let z : k + suc j ≡ suc k + j = omega arith in z) (h (suc j) e (omega arith))))
 
   own : (k : ℕ) (c : Cell R) → cell-indexed alike turns cells n k c ≡ true → lookup alike turns cells n (c .item) ≡ Some k
   own k c h =
@@ -68,27 +68,27 @@ module _ {R : Type 0} (alike : R → R → Bool) (turns : R → ℕ → Bool) (c
   to-index h =
       let len : n ≤ length cells = leb-true n (length cells) (and-parts _ _ h .0) in
       let at : (k : ℕ) (e : Cell R) → k < n → cell-indexed alike turns cells n k (getD cells k e) ≡ true =
-          λ k e lt.
-            subst (λ (c : Cell R). cell-indexed alike turns cells n k c ≡ true) (getD-take n cells k e lt)
-            (subst (λ (x : ℕ). cell-indexed alike turns cells n x (getD (take n cells) k e) ≡ true) (let z : 0 + k ≡ k = omega arith in z)
-              (each 0 (take n cells) (and-parts _ _ h .1) k e (omega (arith, length-take-le n cells len)))) in
-      record
-        { within = len
-        ; links = λ k to side e lt c. both k to side (getD cells k e) (at k e lt) c
-        ; placed = λ k e lt. own k (getD cells k e) (at k e lt)
-        }
+      λ k e lt.
+      subst (λ (c : Cell R). cell-indexed alike turns cells n k c ≡ true) (getD-take n cells k e lt)
+      (subst (λ (x : ℕ). cell-indexed alike turns cells n x (getD (take n cells) k e) ≡ true) (let z : 0 + k ≡ k = omega arith in z)
+      (each 0 (take n cells) (and-parts _ _ h .1) k e (omega (arith, length-take-le n cells len)))) in
+      record {
+        within = len;
+        links = λ k to side e lt c. both k to side (getD cells k e) (at k e lt) c;
+        placed = λ k e lt. own k (getD cells k e) (at k e lt);
+      }
 
   pub from-index : Index alike turns cells n → Indexed alike turns cells n
   from-index ix =
       and-from _ _ (le-leb n (length cells) (ix .within))
       (from-each 0 (take n cells) (λ j e lt.
-        let below : j < n = omega (arith, length-take-le n cells (ix .within)) in
-        let test : cell-indexed alike turns cells n j (getD cells j e) ≡ true =
-            and-from _ _ (leads-from n j _ (λ to c. ix .links j to false e below c))
-            (and-from _ _ (leads-from n j _ (λ to c. ix .links j to true e below c))
-              (ap (is-cell j) (ix .placed j e below) ∙ eq-eqb j j refl)) in
-        subst (λ (c : Cell R). cell-indexed alike turns cells n (0 + j) c ≡ true) (sym (getD-take n cells j e below))
-        (subst (λ (x : ℕ). cell-indexed alike turns cells n x (getD cells j e) ≡ true) (let z : j ≡ 0 + j = omega arith in z) test)))
+      let below : j < n = omega (arith, length-take-le n cells (ix .within)) in
+      let test : cell-indexed alike turns cells n j (getD cells j e) ≡ true =
+      and-from _ _ (leads-from n j _ (λ to c. ix .links j to false e below c))
+      (and-from _ _ (leads-from n j _ (λ to c. ix .links j to true e below c))
+      (ap (is-cell j) (ix .placed j e below) ∙ eq-eqb j j refl)) in
+      subst (λ (c : Cell R). cell-indexed alike turns cells n (0 + j) c ≡ true) (sym (getD-take n cells j e below))
+      (subst (λ (x : ℕ). cell-indexed alike turns cells n x (getD cells j e) ≡ true) (let z : j ≡ 0 + j = omega arith in z) test)))
 
 -- no cells are indexed
 pub indexed-none : {R : Type 0} (alike : R → R → Bool) (turns : R → ℕ → Bool) (cells : List (Cell R)) → Indexed alike turns cells 0

@@ -46,23 +46,22 @@ started alike turns cells n r zero at d h = absurd (h refl)
 started alike turns cells n r (suc f) at d h = omega arith
 
 module _ {R : Type 0} (alike : R → R → Bool) (turns : R → ℕ → Bool)
-         (symmetric : (x y : R) → alike x y ≡ true → alike y x ≡ true)
-         (transitive : (x y z : R) → alike x y ≡ true → alike y z ≡ true → alike x z ≡ true)
-         (agree : (x y : R) → alike x y ≡ true → (d : ℕ) → turns x d ≡ turns y d)
-         (cells : List (Cell R)) (n : ℕ) where
-
+    (symmetric : (x y : R) → alike x y ≡ true → alike y x ≡ true)
+    (transitive : (x y z : R) → alike x y ≡ true → alike y z ≡ true → alike x z ≡ true)
+    (agree : (x y : R) → alike x y ≡ true → (d : ℕ) → turns x d ≡ turns y d)
+    (cells : List (Cell R)) (n : ℕ) where
   -- equal records are found in the same cell
   pub lookup-alike : (x r : R) → n ≤ length cells → alike x r ≡ true → lookup alike turns cells n x ≡ lookup alike turns cells n r
   lookup-alike x r len same =
       let same-items : (y : R) → alike y x ≡ alike y r =
-          λ y. same-tests _ _ (λ e. transitive y x r e same) (λ e. transitive y r x e (symmetric x r same)) in
+      λ y. same-tests _ _ (λ e. transitive y x r e same) (λ e. transitive y r x e (symmetric x r same)) in
       let walks : walk alike turns cells n x n 0 0 ≡ walk alike turns cells n r n 0 0 =
-          ⊎-elim
-          (λ (pos : 0 < n). walk-alike alike turns cells n r x same-items (agree x r same) len n 0 0 pos)
-          (λ (none : n ≤ 0).
-            let z : n ≡ 0 = omega arith in
-            ap (λ (f : ℕ). walk alike turns cells n x f 0 0) z ∙ sym (ap (λ (f : ℕ). walk alike turns cells n r f 0 0) z))
-          (cases-lt 0 n) in
+      ⊎-elim
+      (λ (pos : 0 < n). walk-alike alike turns cells n r x same-items (agree x r same) len n 0 0 pos)
+      (λ (none : n ≤ 0).
+      let z : n ≡ 0 = omega arith in
+      ap (λ (f : ℕ). walk alike turns cells n x f 0 0) z ∙ sym (ap (λ (f : ℕ). walk alike turns cells n r f 0 0) z))
+      (cases-lt 0 n) in
       ap found-at (reached-is alike turns cells n x len ∙ walks ∙ sym (reached-is alike turns cells n r len))
 
   module _ (r : R) (ix : Index alike turns cells n) where
@@ -85,14 +84,14 @@ module _ {R : Type 0} (alike : R → R → Bool) (turns : R → ℕ → Bool)
         (omega (arith, length-items cells n (ix .within), f .0))
         (ap (λ (x : R). alike x r) (item-at k (f .0)) ∙ f .1)
         (λ j below. false-from _ (λ same.
-          let lt : j < n = omega (arith, f .0) in
-          let jk : j ≡ k = same-some _ j k (finds j lt (sym (ap (λ (x : R). alike x r) (item-at j lt)) ∙ same)) e in
-          omega arith))
+        let lt : j < n = omega (arith, f .0) in
+        let jk : j ≡ k = same-some _ j k (finds j lt (sym (ap (λ (x : R). alike x r) (item-at j lt)) ∙ same)) e in
+        omega arith))
     place-by None e =
         place-none alike r r (items cells n)
         (λ j below. false-from _ (λ same.
-          let lt : j < n = omega (arith, length-items cells n (ix .within)) in
-          some-none _ j (finds j lt (sym (ap (λ (x : R). alike x r) (item-at j lt)) ∙ same)) e))
+        let lt : j < n = omega (arith, length-items cells n (ix .within)) in
+        some-none _ j (finds j lt (sym (ap (λ (x : R). alike x r) (item-at j lt)) ∙ same)) e))
 
     -- the walk finds what a scan finds
     pub lookup-place : lookup alike turns cells n r ≡ place alike r (items cells n)
@@ -109,5 +108,5 @@ gap-within alike turns cells n r a s pos e =
     ⊎-elim
     (λ (past : length cells < n). absurd (gap-broken _ a s (sym e) (cond-false _ _ _ (lt-leb n (length cells) past))))
     (λ (len : n ≤ length cells).
-      (gap-found alike turns cells n r n 0 0 a s pos (sym (reached-is alike turns cells n r len) ∙ sym e) .0, len))
+    (gap-found alike turns cells n r n 0 0 a s pos (sym (reached-is alike turns cells n r len) ∙ sym e) .0, len))
     (cases-lt (length cells) n)

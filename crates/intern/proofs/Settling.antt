@@ -40,9 +40,9 @@ module _ {R : Type 0} (cells : List (Cell R)) (n : ℕ) (r : R) where
       let ys : List (Cell R) = set cells n (leaf r) in
       let ne : a ≢ n = omega arith in
       let same : linked (getD cells a (leaf r)) s n .item ≡ getD (map item-of ys) a r =
-          linked-item (getD cells a (leaf r)) s n
-          ∙ ap item-of (sym (getD-set-other cells n a (leaf r) (leaf r) ne))
-          ∙ sym (getD-map item-of ys a (leaf r) r (omega (arith, length-set cells n (leaf r)))) in
+      linked-item (getD cells a (leaf r)) s n
+      ∙ ap item-of (sym (getD-set-other cells n a (leaf r) (leaf r) ne))
+      ∙ sym (getD-map item-of ys a (leaf r) r (omega (arith, length-set cells n (leaf r)))) in
       map-set item-of ys a (linked (getD cells a (leaf r)) s n) ∙ ap (set (map item-of ys) a) same ∙ set-getD (map item-of ys) a r
 
   pub items-hung : (a : ℕ) (s : Bool) → a < n → n < length cells → items (hung cells n r a s) (n + 1) ≡ items cells n ++ r ∷ []
@@ -53,12 +53,11 @@ module _ {R : Type 0} (cells : List (Cell R)) (n : ℕ) (r : R) where
       ∙ items-put space
 
 module _ {R : Type 0} (alike : R → R → Bool) (turns : R → ℕ → Bool)
-         (own : (x : R) → alike x x ≡ true)
-         (symmetric : (x y : R) → alike x y ≡ true → alike y x ≡ true)
-         (transitive : (x y z : R) → alike x y ≡ true → alike y z ≡ true → alike x z ≡ true)
-         (agree : (x y : R) → alike x y ≡ true → (d : ℕ) → turns x d ≡ turns y d)
-         (cells : List (Cell R)) (n : ℕ) (r : R) (indexed-cells : Indexed alike turns cells n) where
-
+    (own : (x : R) → alike x x ≡ true)
+    (symmetric : (x y : R) → alike x y ≡ true → alike y x ≡ true)
+    (transitive : (x y z : R) → alike x y ≡ true → alike y z ≡ true → alike x z ≡ true)
+    (agree : (x y : R) → alike x y ≡ true → (d : ℕ) → turns x d ≡ turns y d)
+    (cells : List (Cell R)) (n : ℕ) (r : R) (indexed-cells : Indexed alike turns cells n) where
   ix : Index alike turns cells n
   ix = to-index alike turns cells n indexed-cells
 
@@ -73,22 +72,34 @@ module _ {R : Type 0} (alike : R → R → Bool) (turns : R → ℕ → Bool)
 
   found : (k : ℕ) → at-place ≡ Some k → Done (Found k) cells
   found k e =
-      record
-        { slot-is = ap (λ (o : Option ℕ). slot-of o n (length cells)) (sym e)
-        ; items-are = refl; indexed = indexed-cells; same-length = refl; rest-kept = refl }
+      record {
+        slot-is = ap (λ (o : Option ℕ). slot-of o n (length cells)) (sym e);
+        items-are = refl;
+        indexed = indexed-cells;
+        same-length = refl;
+        rest-kept = refl;
+      }
 
   full : at-place ≡ None → room n (length cells) ≡ false → Done Full cells
   full e no-room =
-      record
-        { slot-is = sym (ap (λ (o : Option ℕ). slot-of o n (length cells)) e ∙ cond-false _ _ _ no-room)
-        ; items-are = refl; indexed = indexed-cells; same-length = refl; rest-kept = refl }
+      record {
+        slot-is = sym (ap (λ (o : Option ℕ). slot-of o n (length cells)) e ∙ cond-false _ _ _ no-room);
+        items-are = refl;
+        indexed = indexed-cells;
+        same-length = refl;
+        rest-kept = refl;
+      }
 
   added : (ds : List (Cell R)) → at-place ≡ None → room n (length cells) ≡ true → items ds (n + 1) ≡ items cells n ++ r ∷ []
       → Indexed alike turns ds (n + 1) → length ds ≡ length cells → drop (n + 1) ds ≡ drop (n + 1) cells → Done (Added n) ds
   added ds e has-room is idx len rest =
-      record
-        { slot-is = sym (ap (λ (o : Option ℕ). slot-of o n (length cells)) e ∙ cond-true _ _ _ has-room)
-        ; items-are = is; indexed = idx; same-length = len; rest-kept = rest }
+      record {
+        slot-is = sym (ap (λ (o : Option ℕ). slot-of o n (length cells)) e ∙ cond-true _ _ _ has-room);
+        items-are = is;
+        indexed = idx;
+        same-length = len;
+        rest-kept = rest;
+      }
 
   space : room n (length cells) ≡ true → n < length cells
   space e = ltb-true n (length cells) (and-parts _ _ e .0)
@@ -98,8 +109,8 @@ module _ {R : Type 0} (alike : R → R → Bool) (turns : R → ℕ → Bool)
   done-first z true e =
       done-at _ (Added n) _ (set cells n (leaf r)) (cond-true _ _ _ e) (cond-true _ _ _ e)
       (added (set cells n (leaf r)) (ap (λ (m : ℕ). place alike r (items cells m)) z) e (items-put cells n r (space e))
-        (from-index alike turns _ _ (indexed-first alike turns own cells n r z (space e))) (length-set cells n (leaf r))
-        (drop-set-lt (n + 1) cells n (leaf r) (omega arith)))
+      (from-index alike turns _ _ (indexed-first alike turns own cells n r z (space e))) (length-set cells n (leaf r))
+      (drop-set-lt (n + 1) cells n (leaf r) (omega arith)))
   done-first z false e =
       done-at _ Full _ cells (cond-false _ _ _ e) (cond-false _ _ _ e) (full (ap (λ (m : ℕ). place alike r (items cells m)) z) e)
 
@@ -113,9 +124,9 @@ module _ {R : Type 0} (alike : R → R → Bool) (turns : R → ℕ → Bool)
       let gap = gap-found alike turns cells n r n 0 0 a s pos w in
       done-at _ (Added n) _ (hung cells n r a s) (cond-true _ _ _ has-room) (cond-true _ _ _ has-room)
       (added (hung cells n r a s) (none-there a s e) has-room (items-hung cells n r a s (gap .0) (space has-room))
-        (from-index alike turns _ _ (indexed-hung alike turns own cells n r a s ix w (space has-room)))
-        (length-set (set cells n (leaf r)) a _ ∙ length-set cells n (leaf r))
-        (drop-set-lt (n + 1) (set cells n (leaf r)) a _ (omega (arith, gap .0)) ∙ drop-set-lt (n + 1) cells n (leaf r) (omega arith)))
+      (from-index alike turns _ _ (indexed-hung alike turns own cells n r a s ix w (space has-room)))
+      (length-set (set cells n (leaf r)) a _ ∙ length-set cells n (leaf r))
+      (drop-set-lt (n + 1) (set cells n (leaf r)) a _ (omega (arith, gap .0)) ∙ drop-set-lt (n + 1) cells n (leaf r) (omega arith)))
   done-gap pos a s e false no-room =
       done-at _ Full _ cells (cond-false _ _ _ no-room) (cond-false _ _ _ no-room) (full (none-there a s e) no-room)
 

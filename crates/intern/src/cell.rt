@@ -14,7 +14,11 @@ impl<R: Copy> Cell<R> {
     pub fn new(item: R) -> Cell<R>
         ensures { λ c. ⌜ c ≡ leaf item ⌝ }
     {
-        Cell { item, left: None, right: None }
+        Cell {
+            item,
+            left: None,
+            right: None,
+        }
     }
 
     /// The link on one side.
@@ -29,9 +33,17 @@ impl<R: Copy> Cell<R> {
         ensures { λ c. ⌜ c ≡ linked self right to ⌝ }
     {
         if right {
-            Cell { item: self.item, left: self.left, right: Some(to) }
+            Cell {
+                item: self.item,
+                left: self.left,
+                right: Some(to),
+            }
         } else {
-            Cell { item: self.item, left: Some(to), right: self.right }
+            Cell {
+                item: self.item,
+                left: Some(to),
+                right: self.right,
+            }
         }
     }
 }

@@ -13,8 +13,8 @@ ghost use Rattle.intern.specs.Index.{Indexed, items, place};
 ghost use Rattle.intern.specs.Settled.{Settled};
 pub use cell::Cell;
 ghost use Rattle.intern.specs.Walk.{lookup};
-use descent::descend;
 use descent::End;
+use descent::descend;
 pub use keyed::Keyed;
 
 // The greatest cell number that fits a link.

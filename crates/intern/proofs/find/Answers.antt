@@ -7,8 +7,8 @@ use Rattle.intern.proofs.find.Needs as need
 pub returns : need.returns
 returns g c =
     let is = c .found .ensures ∙ ap found-at (c .descend .ensures) in
-    record
-      { answer = is
-      ; first = λ ix.
-          is ∙ lookup-place (g .R·Keyed .alike) (g .R·Keyed .turns) (g .R·Keyed·met .symmetric) (g .R·Keyed·met .transitive) (g .R·Keyed·met .agree) _ _ _ (to-index _ _ _ _ ix)
-      }
+    record {
+      answer = is;
+      first = λ ix.
+          is ∙ lookup-place (g .R·Keyed .alike) (g .R·Keyed .turns) (g .R·Keyed·met .symmetric) (g .R·Keyed·met .transitive) (g .R·Keyed·met .agree) _ _ _ (to-index _ _ _ _ ix);
+    }

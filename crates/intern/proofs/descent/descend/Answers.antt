@@ -24,12 +24,13 @@ returns-then-next-filled g c =
     _ _ _ (g .R·Keyed·met .decides _ _ _ (c .if-eq .ensures tt)) refl (c .turn-right .ensures) (c .child .ensures) _ (c .in-Some .is) (c .if-next-filled .taken)
 
 pub walk-again : need.walk-again
-walk-again g c =
-    ( c .walk .inv .0
-    , omega arith
-    , omega arith
-    , goes-on (g .R·Keyed .alike) (g .R·Keyed .turns) _ _ _ _ _ _ _ (c .walk .inv .1) (c .walk .inv .2) (c .walk .inv .0) (c .walk .inv .3) (c .index-cells-at .is)
-      _ _ _ (g .R·Keyed·met .decides _ _ _ (c .if-eq .ensures tt)) refl (c .turn-right .ensures) (c .child .ensures) _ (c .in-Some .is) (omega arith) (omega arith))
+walk-again g c = (
+  c .walk .inv .0,
+  omega arith,
+  omega arith,
+  goes-on (g .R·Keyed .alike) (g .R·Keyed .turns) _ _ _ _ _ _ _ (c .walk .inv .1) (c .walk .inv .2) (c .walk .inv .0) (c .walk .inv .3) (c .index-cells-at .is)
+      _ _ _ (g .R·Keyed·met .decides _ _ _ (c .if-eq .ensures tt)) refl (c .turn-right .ensures) (c .child .ensures) _ (c .in-Some .is) (omega arith) (omega arith),
+)
 
 pub walk-holds : need.walk-holds
 walk-holds g c = (omega arith, omega arith, omega arith, starts (g .R·Keyed .alike) (g .R·Keyed .turns) _ _ _ (omega arith))

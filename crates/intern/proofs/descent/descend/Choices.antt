@@ -8,7 +8,7 @@ abbrev pub Inv-walk : given.InvT-walk
 Inv-walk g l =
     (l .filled ≤ length (l .cells)) × (l .depth ≤ l .at) × (l .at < l .filled)
     × (walk (g .R·Keyed .alike) (g .R·Keyed .turns) (l .cells) (l .filled) (l .r) (l .filled - l .depth) (l .at) (l .depth)
-      ≡ reached (g .R·Keyed .alike) (g .R·Keyed .turns) (l .cells) (l .filled) (l .r))
+    ≡ reached (g .R·Keyed .alike) (g .R·Keyed .turns) (l .cells) (l .filled) (l .r))
 
 abbrev pub μ-walk : given.MeasureT-walk
 μ-walk g l = l .filled - l .at
