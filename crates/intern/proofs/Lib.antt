@@ -7,3 +7,4 @@ pub mod Indexes
 pub mod Growth
 pub mod Settling
 pub mod Entering
+pub mod Slots
