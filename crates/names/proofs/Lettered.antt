@@ -2,11 +2,11 @@
 use mathlib.Core.Bool.{Bool, true, false, _&&_}
 use mathlib.Core.List.{List, [], _∷_, _++_}
 use mathlib.Core.Path.{_≡_, refl, sym, ap, _∙_}
-use Prim.Native.Nat.{ℕ, _+_, _<_, _≤_}
+use Prim.Native.Nat.{ℕ, _+_, _-_, _<_, _≤_}
 use lib.ListN.{length, getD, take, drop}
 use lib.Dec.{ltb, leb}
 use native.Mathlib.Omega.{arith}
-use Rattle.std.proofs.shelf.Lists.{at-drop-more, at-drop-all, take-at, getD-past, length-take-le}
+use Rattle.std.proofs.shelf.Lists.{at-drop-more, at-drop-all, take-at, getD-past, length-take-le, length-append, length-drop}
 use Rattle.std.proofs.shelf.Tests.{and-parts, ltb-true, leb-true, cond-true}
 use Rattle.std.specs.declared.option.Option.{Option}
 use Rattle.std.specs.declared.option.Option.the-variants.{Some}
@@ -43,3 +43,13 @@ past-text len place letters fits past = getD-past (take len letters) place 0 (om
 
 pub named-is : (text seen-text : List ℕ) → is-name text ≡ true → seen-text ≡ text → Some seen-text ≡ named text
 named-is text seen-text e same = ap (λ (t : List ℕ). Some t) same ∙ sym (cond-true _ _ _ e)
+
+-- the letters after a text was copied to their front
+pub still-whole : (text copied letters : List ℕ) → copied ≡ text → length text ≤ length letters → length (copied ++ drop (length text) letters) ≡ length letters
+still-whole text copied letters e fits =
+    length-append copied (drop (length text) letters) ∙ (
+      let cut : length (drop (length text) letters) ≡ length letters - length text = length-drop (length text) letters in
+      let same : length copied ≡ length text = ap length e in
+      let sum : length copied + length (drop (length text) letters) ≡ length letters = omega arith in
+      sum
+    )

@@ -1,13 +1,17 @@
 -- Names are equal exactly where their texts are.
-use mathlib.Core.Bool.{Bool, true}
+use mathlib.Core.Bool.{Bool, true, false}
 use mathlib.Core.List.{List}
 use mathlib.Core.Path.{_≡_, refl, sym, ap, _∙_}
 use Prim.Native.Nat.{ℕ, _/_, _%_, _^_}
 use lib.Dec.{eqb}
-use lib.ListN.{getD}
+use lib.ListN.{length, getD}
+use native.Mathlib.Omega.{arith}
 use Rattle.std.proofs.shelf.Equals.{sameBytes-decides}
+use Rattle.std.proofs.shelf.Lists.{length-take-le}
+use Rattle.std.proofs.shelf.Tests.{and-from, lt-ltb, le-leb, both-ways}
 use Rattle.std.specs.shelf.Text.{sameBytes}
 use Rattle.names.specs.declared.name.Name.{Name}
+use Rattle.names.specs.Letters.{is-name}
 use Rattle.names.specs.Texts.{text-of, same-text, name-turn}
 
 pub text-from-same : (x y : Name) → same-text x y ≡ true → text-of x ≡ text-of y
@@ -27,3 +31,15 @@ same-through x y z e f = same-from-text x z (text-from-same x y e ∙ text-from-
 
 pub same-turns : (x y : Name) → same-text x y ≡ true → (d : ℕ) → name-turn x d ≡ name-turn y d
 same-turns x y e d = ap (λ (t : List ℕ). eqb (getD t (d / 5 % 8) 0 / 2 ^ (d % 5) % 2) 1) (text-from-same x y e)
+
+-- the text of a name is 1 to 8 letters
+pub text-is-name : (n : Name) → is-name (text-of n) ≡ true
+text-is-name n =
+    let len : length (text-of n) ≡ n .len = length-take-le (n .len) (n .letters) (omega (arith, n .whole, n .few)) in
+    and-from _ _ (lt-ltb 0 (length (text-of n)) (omega (arith, len, n .some)))
+    (and-from _ _ (le-leb (length (text-of n)) 8 (omega (arith, len, n .few))) (n .lettered))
+
+-- a text that is no name is no name's text
+pub never-named : (n : Name) (text : List ℕ) → is-name text ≡ false → sameBytes (text-of n) text ≡ true → ⊥
+never-named n text isnt same =
+    both-ways _ isnt (ap is-name (sym (sameBytes-decides (text-of n) text .0 same)) ∙ text-is-name n)
