@@ -37,8 +37,3 @@ module _ (text : List ℕ) (i start : ℕ) (r : ℕ) (so : start-from i start (d
 
   pub start-all : length text - 1 ≤ i → start ≡ r
   start-all past = sym (at-drop-all (start-from i start) (take (length text - 1) text) i (omega (arith, size))) ∙ so
-
--- an empty text has its last line at its start
-pub start-none : (text : List ℕ) → length text ≡ 0 → 0 ≡ last-start text
-start-none [] none = refl
-start-none (b ∷ bs) none = absurd (omega arith)

@@ -42,14 +42,12 @@ pub fn split_line(text: &[u8]) -> Line
     }
 }
 
-/// The place of the last line of a text, whose last byte ends that line.
-pub fn last_line(text: &[u8]) -> usize
+/// The place of the last line of a text that is not empty.
+fn last_start_in(text: &[u8]) -> usize
+    requires { ⌜ 0 < length (now text) ⌝ }
     ensures place { λ r. ⌜ r ≡ last-start (now (text .entry)) ⌝ }
-    ensures within { λ r. ⌜ (0 < length (now (text .entry)) → r < length (now (text .entry))) ⌝ }
+    ensures within { λ r. ⌜ r < length (now (text .entry)) ⌝ }
 {
-    if text.is_empty() {
-        return 0;
-    }
     let mut start = 0;
     for i in 0..text.len() - 1 {
         if text[i] == b'\n' {
@@ -57,6 +55,17 @@ pub fn last_line(text: &[u8]) -> usize
         }
     }
     start
+}
+
+/// The place of the last line of a text, whose last byte ends that line.
+pub fn last_line(text: &[u8]) -> usize
+    ensures place { λ r. ⌜ r ≡ last-start (now (text .entry)) ⌝ }
+    ensures within { λ r. ⌜ (0 < length (now (text .entry)) → r < length (now (text .entry))) ⌝ }
+{
+    match text {
+        [] => 0,
+        _ => last_start_in(text),
+    }
 }
 
 /// What follows a space.

@@ -2,9 +2,9 @@ use mathlib.Core.Path.{sym, _∙_}
 use native.Mathlib.Omega.{arith}
 use borrow.Author.Needs.{needs}
 use Rattle.std.proofs.shelf.Tests.{cond-true, cond-false, eq-eqb, ne-eqb}
-use Rattle.items.proofs.Scans.{start-on, start-all, start-none}
-use Rattle.items.proofs.lines.last_line.Needs as need
-use Rattle.items.proofs.lines.last_line.Needs.{then-text-i-eq10, else-text-i-eq10}
+use Rattle.items.proofs.Scans.{start-on, start-all}
+use Rattle.items.proofs.lines.last_start_in.Needs as need
+use Rattle.items.proofs.lines.last_start_in.Needs.{then-text-i-eq10, else-text-i-eq10}
 
 pub loop-i-again : need.loop-i-again
 loop-i-again c = (
@@ -16,7 +16,4 @@ loop-i-again c = (
 )
 
 pub returns : need.returns
-returns c = record { place = start-all (c .args .text .now) _ _ _ (c .loop-i .inv .0) (c .loop-i-test .left); within = λ some. omega arith }
-
-pub returns-then-is-empty : need.returns-then-is-empty
-returns-then-is-empty c = record { place = start-none (c .args .text .now) (search needs); within = λ some. search needs }
+returns c = record { place = start-all (c .args .text .now) _ _ _ (c .loop-i .inv .0) (c .loop-i-test .left); within = omega arith }

@@ -1,0 +1,4 @@
+pub mod Books
+pub mod Fronts
+pub mod Pigeons
+pub mod Rules
