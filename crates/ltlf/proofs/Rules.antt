@@ -8,7 +8,7 @@ use native.Mathlib.Omega.{arith}
 use lib.Dec.{eqb, ltb}
 use lib.ListN.{length, getD, set, take, drop}
 use Rattle.std.proofs.shelf.Lists.{at-drop-more, at-drop-all, length-take-le, getD-take, getD-set-same, getD-set-other, take-more-set, length-set}
-use Rattle.std.proofs.shelf.Tests.{cond-true, cond-false, eq-eqb, ne-eqb, cases-eq, false≢true, eqb-true, cases-bool}
+use Rattle.std.proofs.shelf.Tests.{cond-true, cond-false, eq-eqb, ne-eqb, cases-eq, false≢true, cases-bool, and-left, and-right, not-from-true}
 use Rattle.std.proofs.shelf.Ways.{tells}
 use Rattle.ltlf.specs.Contents.{among}
 use Rattle.ltlf.proofs.Pigeons.{Differ, pigeons}
@@ -99,6 +99,9 @@ module _ (rules : List ℕ) (n f count : ℕ) (fits : n ≤ length rules)
         ∙ sym (ap (λ b. cond (b && not (among f (take n rules))) (take n rules ++ f ∷ []) (take n rules)) is
         ∙ ap (λ b. cond (true && not b) (take n rules ++ f ∷ []) (take n rules)) (sym fresh))
 
--- a formula that was put
-pub was-put : {X : Type 0} (xs : List X) (n f : ℕ) → n ≤ length xs → f < n → ltb f (length (take n xs)) ≡ true
-was-put xs n f fits h = let size = length-take-le n xs fits in grind (arith, tells)
+-- a formula that was not put is not named, and a rule is not named again
+pub rules-unput : (put : Bool) (rules : List ℕ) (f : ℕ) → put ≡ false → rules ≡ cond (put && not (among f rules)) (rules ++ f ∷ []) rules
+rules-unput put rules f e = sym (cond-false _ _ _ (and-left put (not (among f rules)) e))
+
+pub rules-again : (put : Bool) (rules : List ℕ) (f : ℕ) → true ≡ among f rules → rules ≡ cond (put && not (among f rules)) (rules ++ f ∷ []) rules
+rules-again put rules f e = sym (cond-false _ _ _ (and-right put (not (among f rules)) (not-from-true (among f rules) (sym e))))

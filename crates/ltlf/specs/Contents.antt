@@ -9,6 +9,7 @@ use Rattle.std.specs.declared.option.Option.{Option}
 use Rattle.std.specs.declared.option.Option.the-variants.{Some, None}
 use Rattle.std.specs.declared.result.Result.{Result}
 use Rattle.std.specs.declared.result.Result.the-variants.{Ok, Err}
+use Rattle.intern.specs.Index.{items, place}
 use Rattle.refusal.specs.declared.Refusal.{Refusal}
 use Rattle.refusal.specs.declared.Refusal.the-variants.{CountsOutOfRange, Unknown, TooManyFormulas}
 use Rattle.ltlf.specs.Nodes.{known, same}
@@ -26,7 +27,7 @@ pub record Contents : Type 0 where
 
 -- what a draft holds
 abbrev pub draft-contents : Draft → Contents
-draft-contents d = record { codes = d .codes; atoms = d .atoms; nodes = take (d .len) (d .nodes); rules = take (d .named) (d .rules) }
+draft-contents d = record { codes = d .codes; atoms = d .atoms; nodes = items (d .cells) (d .len); rules = take (d .named) (d .rules) }
 
 -- what a book holds
 abbrev pub book-contents : Book → Contents
@@ -48,11 +49,6 @@ counts-answer codes atoms = cond (counts-fit codes atoms) (Ok tt) (Err CountsOut
 abbrev pub counts-leave : Contents → (codes atoms : ℕ) → Contents
 counts-leave b codes atoms = cond (counts-fit codes atoms) (empty codes atoms) b
 
--- the number of the first equal formula, counted from i
-abbrev pub place-from : (i : ℕ) → Node → List Node → Option ℕ
-place-from i node [] = None
-place-from i node (x ∷ xs) = cond (same x node) (Some i) (place-from (i + 1) node xs)
-
 -- an equal formula has its old number; a new one gets the next, and a 65th is refused by 3
 abbrev pub numbered : List Node → Option ℕ → Result ℕ Refusal
 numbered nodes (Some k) = Ok k
@@ -60,7 +56,7 @@ numbered nodes None = cond (ltb (length nodes) 64) (Ok (length nodes)) (Err TooM
 
 -- putting a formula: 2 where its atom or an operand is not there
 abbrev pub put-answer : Contents → Node → Result ℕ Refusal
-put-answer b node = cond (known (b .atoms) (length (b .nodes)) node) (numbered (b .nodes) (place-from 0 node (b .nodes))) (Err Unknown)
+put-answer b node = cond (known (b .atoms) (length (b .nodes)) node) (numbered (b .nodes) (place same node (b .nodes))) (Err Unknown)
 
 abbrev pub with-new : Node → List Node → Option ℕ → List Node
 with-new node nodes (Some k) = nodes
@@ -71,7 +67,7 @@ abbrev pub put-leaves : Contents → Node → Contents
 put-leaves b node = record {
   codes = b .codes;
   atoms = b .atoms;
-  nodes = cond (known (b .atoms) (length (b .nodes)) node) (with-new node (b .nodes) (place-from 0 node (b .nodes))) (b .nodes);
+  nodes = cond (known (b .atoms) (length (b .nodes)) node) (with-new node (b .nodes) (place same node (b .nodes))) (b .nodes);
   rules = b .rules;
 }
 

@@ -1,7 +1,7 @@
 -- Nodes: the operands that they name, and when two are equal.
 use mathlib.Core.Bool.{Bool, true, _&&_}
 use mathlib.Core.List.{List, [], _∷_}
-use Prim.Native.Nat.{ℕ}
+use Prim.Native.Nat.{ℕ, _+_, _*_, _/_, _%_, _^_}
 use lib.Dec.{eqb, ltb}
 use Rattle.ltlf.specs.declared.node.Node.{Node}
 use Rattle.ltlf.specs.declared.node.Node.the-variants.{True, False, Atom, NotAtom, And, Or, Tomorrow, WeakTomorrow, Until, Release}
@@ -74,3 +74,11 @@ right (Release f g) = g
 -- nodes are equal when they have one kind and name the same numbers
 unfoldable pub same : Node → Node → Bool
 same m n = eqb (kind m) (kind n) && (eqb (left m) (left n) && eqb (right m) (right n))
+
+-- kind and operands as one number: the operands are its two low bytes
+abbrev pub key : Node → ℕ
+key n = 65536 * kind n + left n + 256 * right n
+
+-- the bits of the key, over again after twenty
+abbrev pub node-turn : Node → (depth : ℕ) → Bool
+node-turn n depth = eqb (key n / 2 ^ (depth % 20) % 2) 1

@@ -1,9 +1,14 @@
 // The calls of a draft.
 ghost use mathlib.Core.Path.{_≡_};
-ghost use Rattle.ltlf.specs.Contents.{draft-contents, book-contents, empty, counts-answer, counts-leave, rule-answer, rule-leaves, among};
+ghost use Rattle.ltlf.specs.Contents.{draft-contents, book-contents, empty, counts-answer, counts-leave, rule-answer, rule-leaves, put-answer, put-leaves, among};
+ghost use Rattle.ltlf.specs.Nodes.{known};
 use super::book::Book;
 use super::draft::Draft;
+use super::key::NodeKeyed;
 use super::node::Node;
+use intern::Cell;
+use intern::Slot;
+use intern::find_or_add;
 use refusal::Refusal;
 
 impl Draft {
@@ -14,7 +19,7 @@ impl Draft {
         Draft {
             codes: 0,
             atoms: 0,
-            nodes: [Node::True; 64],
+            cells: [Cell::new(Node::True); 64],
             len: 0,
             rules: [0; 64],
             named: 0,
@@ -36,6 +41,45 @@ impl Draft {
             Ok(())
         } else {
             Err(Refusal::CountsOutOfRange)
+        }
+    }
+
+    /// Whether the atom or the operands that a node names are there.
+    fn knows(&self, node: Node) -> bool
+        ensures { λ r. ⌜ r ≡ known (now (self .entry) .atoms) (now (self .entry) .len) node ⌝ }
+    {
+        match node {
+            Node::True => true,
+            Node::False => true,
+            Node::Atom(a) => a < self.atoms,
+            Node::NotAtom(a) => a < self.atoms,
+            Node::And(f, g) => f < self.len && g < self.len,
+            Node::Or(f, g) => f < self.len && g < self.len,
+            Node::Tomorrow(f) => f < self.len,
+            Node::WeakTomorrow(f) => f < self.len,
+            Node::Until(f, g) => f < self.len && g < self.len,
+            Node::Release(f, g) => f < self.len && g < self.len,
+        }
+    }
+
+    /// Puts a formula, and returns its number; an equal formula put before has its old number.
+    ///
+    /// Errors: 2 where its atom or an operand is not there, 3 for a 65th formula; the draft is unchanged.
+    pub fn put(&mut self, node: Node) -> Result<u8, Refusal>
+        ensures answer { λ r. ⌜ r ≡ put-answer (draft-contents (now (self .entry))) node ⌝ }
+        ensures after { λ _. ⌜ draft-contents (now (self .exit)) ≡ put-leaves (draft-contents (now (self .entry))) node ⌝ }
+    {
+        if !self.knows(node) {
+            return Err(Refusal::Unknown);
+        }
+        match find_or_add(&mut self.cells, self.len as usize, node) {
+            Slot::Found(place) => Ok(place as u8),
+            Slot::Added(place) => {
+                self.len += 1;
+                Ok(place as u8)
+            }
+            Slot::Full => Err(Refusal::TooManyFormulas),
+            Slot::Broken => unreachable(),
         }
     }
 

@@ -35,7 +35,7 @@ impl Book {
         ensures { λ r. ⌜ r ≡ node-answer (book-contents (now (self .entry))) number ⌝ }
     {
         if number < self.sealed.len {
-            Ok(self.sealed.nodes[number as usize])
+            Ok(self.sealed.cells[number as usize].item)
         } else {
             Err(Refusal::Unknown)
         }

@@ -4,7 +4,7 @@ use native.Mathlib.Omega.{arith}
 use Rattle.report.specs.declared.standing.Standing.the-variants.{Yes, No, Unvisited}
 use Rattle.report.specs.Lines.{stands-text}
 use Rattle.report.proofs.Pieces.{begin, line-is}
-use Rattle.report.proofs.lines.stands_line.Needs as need
+use Rattle.report.proofs.stands.stands_line.Needs as need
 
 pub returns-in-Yes : need.returns-in-Yes
 returns-in-Yes c =

@@ -7,7 +7,7 @@ use Rattle.std.specs.Written.{decimal}
 use Rattle.refusal.specs.Numbers.{sheet-number, sheet-place}
 use Rattle.report.specs.Lines.{refused-text}
 use Rattle.report.proofs.Pieces.{digits-few, begin, more, line-is}
-use Rattle.report.proofs.lines.refused_line.Needs as need
+use Rattle.report.proofs.refused.refused_line.Needs as need
 
 pub append-number-number-requires : need.append-number-number-requires
 append-number-number-requires c κs = omega (arith, digits-few (c .from .result) (omega arith))

@@ -6,7 +6,7 @@ use Rattle.std.proofs.shelf.Lists.{append-assoc}
 use Rattle.std.specs.Written.{decimal}
 use Rattle.report.specs.Lines.{kept-text}
 use Rattle.report.proofs.Pieces.{digits-few, begin, more, line-is}
-use Rattle.report.proofs.lines.kept_line.Needs as need
+use Rattle.report.proofs.kept.kept_line.Needs as need
 
 pub append-number-number-requires : need.append-number-number-requires
 append-number-number-requires c κs = omega (arith, digits-few (c .args .kept) (omega arith))

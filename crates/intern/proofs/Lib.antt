@@ -1,0 +1,10 @@
+pub mod Walks
+pub mod Descents
+pub mod Ends
+pub mod Places
+pub mod Index
+pub mod Indexes
+pub mod Growth
+pub mod Settling
+pub mod Entering
+pub mod Slots
