@@ -48,8 +48,8 @@ named-is text seen-text e same = ap (λ (t : List ℕ). Some t) same ∙ sym (co
 pub still-whole : (text copied letters : List ℕ) → copied ≡ text → length text ≤ length letters → length (copied ++ drop (length text) letters) ≡ length letters
 still-whole text copied letters e fits =
     length-append copied (drop (length text) letters) ∙ (
-      let cut : length (drop (length text) letters) ≡ length letters - length text = length-drop (length text) letters in
-      let same : length copied ≡ length text = ap length e in
-      let sum : length copied + length (drop (length text) letters) ≡ length letters = omega arith in
-      sum
+    let cut : length (drop (length text) letters) ≡ length letters - length text = length-drop (length text) letters in
+    let same : length copied ≡ length text = ap length e in
+    let sum : length copied + length (drop (length text) letters) ≡ length letters = omega arith in
+    sum
     )
