@@ -30,7 +30,7 @@ same-tests true c to from = sym (to refl)
 same-tests false true to from = from refl
 same-tests false false to from = refl
 
-false-from : (b : Bool) → (b ≡ true → ⊥) → b ≡ false
+pub false-from : (b : Bool) → (b ≡ true → ⊥) → b ≡ false
 false-from true no-way = absurd (no-way refl)
 false-from false no-way = refl
 
