@@ -2,7 +2,7 @@
 use mathlib.Core.Bool.{Bool, true, false}
 use mathlib.Core.List.{List}
 use mathlib.Core.Logic.{⊎-elim}
-use mathlib.Core.Path.{_≡_, refl, sym, ap, subst, _∙_}
+use mathlib.Core.Path.{_≡_, refl, sym, ap, ap₂, _∙_}
 use Prim.Native.Nat.{ℕ, zero, suc, _+_, _<_, _≤_}
 use lib.ListN.{length, getD}
 use native.Mathlib.Omega.{arith}
@@ -30,7 +30,7 @@ same-tests true c to from = sym (to refl)
 same-tests false true to from = from refl
 same-tests false false to from = refl
 
-false-from : (b : Bool) → (b ≡ true → ⊥) → b ≡ false
+pub false-from : (b : Bool) → (b ≡ true → ⊥) → b ≡ false
 false-from true no-way = absurd (no-way refl)
 false-from false no-way = refl
 
@@ -76,6 +76,14 @@ module _ {R : Type 0} (alike : R → R → Bool) (turns : R → ℕ → Bool)
     found-item k e =
         let w : walk alike turns cells n r n 0 0 ≡ Here k = sym (reached-is alike turns cells n r (ix .within)) ∙ found-here _ k e in
         here-found alike turns cells n r n 0 0 k (started alike turns cells n r n 0 0 (here-broken _ k w)) w
+
+    -- no two items of indexed cells are equal
+    pub items-apart : (j k : ℕ) → j < n → k < n → alike (getD (items cells n) j r) (getD (items cells n) k r) ≡ true → j ≡ k
+    items-apart j k below-j below-k same =
+        let x : R = getD cells j (leaf r) .item in
+        let y : R = getD cells k (leaf r) .item in
+        let same-items : alike x y ≡ true = sym (ap₂ alike (item-at j below-j) (item-at k below-k)) ∙ same in
+        same-some _ j k (sym (lookup-alike x y (ix .within) same-items) ∙ ix .placed j (leaf r) below-j) (ix .placed k (leaf r) below-k)
 
     place-by : (o : Option ℕ) → lookup alike turns cells n r ≡ o → place alike r (items cells n) ≡ o
     place-by (Some k) e =

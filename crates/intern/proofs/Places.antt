@@ -1,7 +1,7 @@
 -- The place of the first record that equals another.
 use mathlib.Core.Bool.{Bool, true, false, cond}
 use mathlib.Core.List.{List, [], _∷_, map}
-use mathlib.Core.Path.{_≡_, refl, sym, ap, subst, _∙_}
+use mathlib.Core.Path.{_≡_, refl, ap, ap₂, _∙_}
 use Prim.Native.Nat.{ℕ, zero, suc, _<_, _≤_}
 use lib.ListN.{length, getD, take}
 use native.Mathlib.Omega.{arith}
@@ -34,3 +34,10 @@ module _ {R : Type 0} (cells : List (Cell R)) (n : ℕ) (len : n ≤ length cell
   items-at k e lt =
       getD-map (λ c. c .item) (take n cells) k e (e .item) (omega (arith, length-take-le n cells len))
       ∙ ap (λ (c : Cell R). c .item) (getD-take n cells k e lt)
+
+-- the place among the values of a function that carries one test over to another
+pub place-map : {R S : Type 0} (alike : R → R → Bool) (same : S → S → Bool) (f : R → S) → ((x y : R) → alike x y ≡ same (f x) (f y))
+    → (r : R) (xs : List R) → place alike r xs ≡ place same (f r) (map f xs)
+place-map alike same f carry r [] = refl
+place-map alike same f carry r (x ∷ xs) =
+    ap₂ (λ (b : Bool) (o : Option ℕ). cond b (Some 0) (further o)) (carry x r) (place-map alike same f carry r xs)
