@@ -1,5 +1,7 @@
 // The program `sheet`: a sheet from standard input, its report on standard output.
 // It holds no logic of its own: public calls read the sheet, judge its notes and make every line.
+ghost use mathlib.Core.Path.{_≡_};
+ghost use Rattle.sheet.specs.Standing.{standing-of};
 use flags::Flags;
 use flags::FlagsTheory;
 use judge::Judgement;
@@ -42,7 +44,9 @@ fn pass_on(out: &mut io::Stdout, line: &[u8], made: Result<usize, Refusal>) -> i
 }
 
 /// What the judge's answer says of the kept visits; of an accepted sheet's notes it refuses only none at all.
-fn standing_of(judged: Result<Judgement, Refusal>) -> Standing {
+fn standing_of(judged: Result<Judgement, Refusal>) -> Standing
+    ensures { λ r. ⌜ r ≡ standing-of judged ⌝ }
+{
     match judged {
         Ok(Judgement::Met) => Standing::Yes,
         Ok(Judgement::Unmet) => Standing::No,
