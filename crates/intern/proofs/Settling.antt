@@ -77,6 +77,7 @@ module _ {R : Type 0} (alike : R → R → Bool) (turns : R → ℕ → Bool)
         items-are = refl;
         indexed = indexed-cells;
         same-length = refl;
+        kept = refl;
         rest-kept = refl;
       }
 
@@ -87,6 +88,7 @@ module _ {R : Type 0} (alike : R → R → Bool) (turns : R → ℕ → Bool)
         items-are = refl;
         indexed = indexed-cells;
         same-length = refl;
+        kept = refl;
         rest-kept = refl;
       }
 
@@ -98,6 +100,7 @@ module _ {R : Type 0} (alike : R → R → Bool) (turns : R → ℕ → Bool)
         items-are = is;
         indexed = idx;
         same-length = len;
+        kept = tt;
         rest-kept = rest;
       }
 
