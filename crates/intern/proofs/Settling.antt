@@ -1,5 +1,5 @@
 -- What finding a record or adding it does to indexed cells.
-use mathlib.Core.Bool.{Bool, true, false, cond}
+use mathlib.Core.Bool.{Bool, true, false}
 use mathlib.Core.List.{List, [], _∷_, _++_, map}
 use mathlib.Core.Logic.{_≢_}
 use mathlib.Core.Path.{_≡_, refl, sym, ap, subst, _∙_}
@@ -18,9 +18,9 @@ use Rattle.intern.specs.declared.Slot.{Slot}
 use Rattle.intern.specs.declared.Slot.the-variants.{Found, Added, Full, Broken}
 use Rattle.intern.specs.Entry.{room, new-slot, hung, with-first, with-hung, slot-at, cells-at, slot-answer, cells-after}
 use Rattle.intern.specs.Links.{leaf, linked}
-use Rattle.intern.specs.Walk.{walk, reached, found-at, lookup}
+use Rattle.intern.specs.Walk.{walk, reached, found-at}
 use Rattle.intern.specs.Index.{items, place, Indexed}
-use Rattle.intern.specs.Settled.{slot-of, count-after, items-after, Settled}
+use Rattle.intern.specs.Settled.{slot-of, Settled}
 use Rattle.intern.proofs.Ends.{gap-found, reached-is}
 use Rattle.intern.proofs.Growth.{linked-item, indexed-hung, indexed-first}
 use Rattle.intern.proofs.Index.{Index, to-index, from-index}
