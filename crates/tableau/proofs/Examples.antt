@@ -16,7 +16,7 @@ use Rattle.judge.specs.Histories.{visit}
 use Rattle.tableau.specs.Positions.{Question}
 use Rattle.tableau.specs.Continuations.{All-codes, Well-posed}
 use Rattle.tableau.specs.Search.{Answer, answer}
-use Rattle.tableau.specs.Examples.{tried, Each-answered, Examples-answered}
+use Rattle.tableau.specs.Examples.{tried, edges, Each-answered, Examples-answered, Edges-answered}
 use Rattle.tableau.proofs.Tests.{no-way, not-ok}
 
 abbrev all-less : ℕ → List ℕ → Bool
@@ -97,7 +97,6 @@ each [] r = tt
 each (p ∷ ps) r = ((posed-ok (p .0) (r .0 .0), r .0 .1), each ps (r .1))
 
 all-computed : Computed tried
-unfolding answer
 all-computed = (
   (refl, refl),
   (
@@ -123,3 +122,8 @@ all-computed = (
 
 pub examples-answered : Examples-answered
 examples-answered = each tried all-computed
+
+pub edges-answered : Edges-answered
+edges-answered =
+    each edges
+    ((refl, refl), ((refl, refl), ((refl, refl), ((refl, refl), ((refl, refl), ((refl, refl), ((refl, refl), tt)))))))

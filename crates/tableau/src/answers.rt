@@ -1,6 +1,5 @@
 // The answer to a question.
 ghost use Rattle.tableau.specs.Theorems.{Counted-are-finite, Answer-is-right};
-ghost use Rattle.tableau.specs.Examples.{Examples-answered};
 
 /// The counted positions are finitely many.
 pub fn counted_are_finite() -> u8
@@ -12,13 +11,6 @@ pub fn counted_are_finite() -> u8
 /// The computed answer is right for every well-posed question and every number of rows.
 pub fn answer_is_right() -> u8
     ensures { λ _. ⌜ Answer-is-right ⌝ }
-{
-    0
-}
-
-/// The examples have the answers that stand beside them.
-pub fn examples_answered() -> u8
-    ensures { λ _. ⌜ Examples-answered ⌝ }
 {
     0
 }
