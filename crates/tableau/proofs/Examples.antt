@@ -16,7 +16,7 @@ use Rattle.judge.specs.Histories.{visit}
 use Rattle.tableau.specs.Positions.{Question}
 use Rattle.tableau.specs.Continuations.{All-codes, Well-posed}
 use Rattle.tableau.specs.Search.{Answer, answer}
-use Rattle.tableau.specs.Examples.{tried, edges, Each-answered, Examples-answered, Edges-answered}
+use Rattle.tableau.specs.Examples.{tried, boundaries, Each-answered, Examples-answered, Boundaries-answered}
 use Rattle.tableau.proofs.Tests.{no-way, not-ok}
 
 abbrev all-less : ℕ → List ℕ → Bool
@@ -123,7 +123,7 @@ all-computed = (
 pub examples-answered : Examples-answered
 examples-answered = each tried all-computed
 
-pub edges-answered : Edges-answered
-edges-answered =
-    each edges
+pub boundaries-answered : Boundaries-answered
+boundaries-answered =
+    each boundaries
     ((refl, refl), ((refl, refl), ((refl, refl), ((refl, refl), ((refl, refl), ((refl, refl), ((refl, refl), tt)))))))

@@ -3,7 +3,8 @@ use mathlib.Core.Path.{_≡_, refl, sym, _∙_, ap, ap₂, subst, subst⁻¹}
 use mathlib.Core.Bool.{Bool, true, false, cond}
 use mathlib.Core.List.{List, [], _∷_, _++_}
 use mathlib.Core.Logic.{_⊎_, inl, inr, _↔_}
-use Prim.Native.Nat.{ℕ, zero, suc, pred, _+_, _^_, _≤_, _<_}
+use Prim.Native.Nat.{ℕ, zero, suc, pred, _+_, _*_, _^_, _≤_, _<_}
+use native.Mathlib.Nat.{mul-one}
 use native.Mathlib.Omega.{arith}
 use lib.Dec.{ltb}
 use lib.ListN.{length, length-append}
@@ -11,12 +12,12 @@ use Rattle.std.proofs.shelf.Tests.{ltb-true, ltb-false}
 use Rattle.tableau.specs.Positions.{Position, Question, Step, Reached, Distance, No-end, Least-end, Counted, Rows, In, Distinct, last-place}
 use Rattle.tableau.specs.Continuations.{Well-posed, Possible, Shortest, Impossible}
 use Rattle.tableau.specs.Search.{any, gather, below, ends, steps, starts, fresh, Answer, can, cannot, short, layers, answer}
-use Rattle.tableau.specs.Theorems.{Says, Answer-is-right, Counted-are-finite}
+use Rattle.tableau.specs.Theorems.{Says, Answer-is-right, Counted-are-finite, Counted-are-bounded, Questions-are-decided}
 use Rattle.tableau.proofs.Histories.{shortest-is-least, none-is-none, possible-visits, reached-bounded}
 use Rattle.tableau.proofs.Progress.{Progress, begin, advance, end-found, exhausted, seen-counted}
 use Rattle.tableau.proofs.Tests.{no-way, in-append, in-below, any-ok, gather-ok}
 use Rattle.tableau.proofs.Computed.{ends-ok, steps-ok, starts-ok, fresh-ok, fresh-distinct}
-use Rattle.tableau.proofs.Counting.{no-longer, distinct-append, same-count}
+use Rattle.tableau.proofs.Counting.{no-longer, distinct-append, same-count, length-below, length-gather}
 
 -- what a search has found, with a list of counted positions
 abbrev pub Found : Question → ℕ → Answer → Type 0
@@ -125,6 +126,34 @@ counted-finite q posed = go (answer q (length (within q))) (answer-found q posed
         let h = no-longer (f .0) (within q) (f .1) (λ e i. counted-within q posed e (f .2 e i)) in
         let l = f .3 in absurd (omega arith)
 
+within-length : (q : Question) → length (within q) ≡ suc (last-place q) * (2 ^ length (q .book .nodes) * q .meaning .codes)
+unfolding within
+within-length q =
+    let M = q .meaning .codes in
+    let N = 2 ^ length (q .book .nodes) in
+    let codes : ℕ → ℕ → ℕ → List Position = λ p L c. record { place = p; label = L; code = c } ∷ [] in
+    let labels : ℕ → ℕ → List Position = λ p L. gather (codes p L) (below M) in
+    let one : (p L : ℕ) → length (labels p L) ≡ M =
+    λ p L. length-gather (codes p L) 1 (λ c. refl) (below M) ∙ mul-one (length (below M)) ∙ length-below M in
+    let row : (p : ℕ) → length (gather (labels p) (below N)) ≡ N * M =
+    λ p. length-gather (labels p) M (one p) (below N) ∙ ap (λ (x : ℕ). x * M) (length-below N) in
+    length-gather (λ (p : ℕ). gather (labels p) (below N)) (N * M) row (below (suc (last-place q)))
+    ∙ ap (λ (x : ℕ). x * (N * M)) (length-below (suc (last-place q)))
+
+pub counted-bounded : Counted-are-bounded
+counted-bounded q posed ps r =
+    subst (λ (x : ℕ). length ps ≤ x) (within-length q) (no-longer ps (within q) (r .apart) (λ e i. counted-within q posed e (r .all e .0 i)))
+
+pub questions-decided : Questions-are-decided
+questions-decided q posed = go (answer q (length (within q))) (answer-found q posed (length (within q)))
+  where
+    go : (a : Answer) → Found q (length (within q)) a → ((n : ℕ) × Shortest q n) ⊎ Impossible q
+    go (can n r) f = inl (suc (f .4 .0), shortest-is-least q posed (f .4 .0) .0 (f .4 .2))
+    go (cannot r) f = inr (none-is-none q posed .1 (f .4))
+    go (short r) f =
+        let h = no-longer (f .0) (within q) (f .1) (λ e i. counted-within q posed e (f .2 e i)) in
+        let l = f .3 in absurd (omega arith)
+
 -- THE ANSWER
 
 module _ (q : Question) (posed : Well-posed q) (rows : ℕ) (ps : List Position) (all : Rows q ps) where
@@ -165,3 +194,9 @@ answer-right q posed rows ps all a =
       (λ e. subst (Says q rows ps) e f),
       (λ s. one-answer q posed rows ps all (answer q rows) a f s),
     )
+
+-- a search that found something has the answer
+pub answer-from : (q : Question) → Well-posed q → (rows : ℕ) (a : Answer) → Found q rows a → answer q rows ≡ a
+answer-from q posed rows a f =
+    let c = counted-finite q posed in
+    answer-right q posed rows (c .0) (c .1) a .1 (found-says q posed rows (c .0) (c .1) a f)

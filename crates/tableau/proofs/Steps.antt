@@ -22,7 +22,7 @@ use Rattle.judge.proofs.Deciding.{holds?}
 use Rattle.judge.proofs.Trees.{operands-before, formula-is}
 use Rattle.tableau.specs.Labels.{Label, _∈_}
 use Rattle.tableau.specs.Expansion.{Choice, Side, one, other, parts, handed-on, Expansion, member, part, Goes-on, Admitted, Sound, Handed-on}
-use Rattle.tableau.specs.Theorems.{All-hold, Step-is-sound, Step-is-complete}
+use Rattle.tableau.specs.Theorems.{All-hold, Step-is-sound, Step-is-complete, Expansion-is-least}
 
 -- what comes after a visit is a code exactly if the visit is not the last
 code-inside : (σ : List ℕ) (i : ℕ) → Goes-on (after σ i) → suc i < length σ
@@ -220,3 +220,7 @@ step-complete t b pr σ i h L al = (
   (λ l g k. next-holds t b σ i h (k .0) (node-at b (k .0)) (formula-is b pr (k .0))
       (subst (Holds t σ i) (formula-is b pr (k .0)) (true-expansion t b pr σ i h L al (k .0) (k .1))) l g (k .2)),
 )
+
+pub expansion-least : Expansion-is-least
+expansion-least b κ L p base closed f (member m) = base f m
+expansion-least b κ L p base closed g (part {f = f} x a) = closed f g (expansion-least b κ L p base closed f x) a

@@ -4,7 +4,6 @@ use mathlib.Core.List.{List, [], _∷_}
 use mathlib.Core.Bool.{Bool, true, false}
 use Prim.Native.Nat.{ℕ, zero, suc}
 use lib.Dec.{eqb}
-use lib.ListN.{length}
 use Rattle.theory.specs.declared.next.Next.{Next}
 use Rattle.theory.specs.declared.next.Next.the-variants.{Code, Last}
 use Rattle.ltlf.specs.declared.node.Node.{Node}
@@ -81,9 +80,9 @@ tried =
     ∷ (always strong-fact (NotAtom 0), 4096, can 1 3)
     ∷ []
 
--- Questions at the edges: no row; a whole layer that has to fit; both sides of an until, with {T} and {T, F 0} as two labels; no rules.
-abbrev pub edges : List (Question × ℕ × Answer)
-edges =
+-- Questions at the boundaries: no row; a whole layer that has to fit; both sides of an until, with {T} and {T, F 0} as two labels; no rules.
+abbrev pub boundaries : List (Question × ℕ × Answer)
+boundaries =
     (climbing [], 0, short 0)
     ∷ (three-flags, 9, short 9)
     ∷ (three-flags, 15, short 15)
@@ -102,6 +101,6 @@ Each-answered (p ∷ ps) = (Well-posed (p .0) × (answer (p .0) (p .1) ≡ p .2)
 abbrev pub Examples-answered : Type 0
 Examples-answered = Each-answered tried
 
--- The questions at the edges have their answers.
-abbrev pub Edges-answered : Type 0
-Edges-answered = Each-answered edges
+-- The questions at the boundaries have their answers.
+abbrev pub Boundaries-answered : Type 0
+Boundaries-answered = Each-answered boundaries

@@ -3,7 +3,7 @@ ghost use mathlib.Core.Path.{_≡_};
 ghost use mathlib.Core.List.{[]};
 ghost use Prim.Native.Nat.{pred};
 ghost use Rattle.tableau.specs.Search.{answer, can, cannot, short};
-ghost use Rattle.tableau.specs.Examples.{climbing, three-flags, always-and-not, Examples-answered, Edges-answered};
+ghost use Rattle.tableau.specs.Examples.{climbing, three-flags, always-and-not, Examples-answered, Boundaries-answered};
 
 /// The examples have the answers that stand beside them.
 pub fn examples_answered() -> u8
@@ -12,9 +12,9 @@ pub fn examples_answered() -> u8
     0
 }
 
-/// The questions at the edges of the definitions have the answers that stand beside them.
-pub fn edges_answered() -> u8
-    ensures { λ _. ⌜ Edges-answered ⌝ }
+/// The questions at the boundaries of the definitions have the answers that stand beside them.
+pub fn boundaries_answered() -> u8
+    ensures { λ _. ⌜ Boundaries-answered ⌝ }
 {
     0
 }
