@@ -57,8 +57,8 @@ abbrev pub gather : {X Y : Type 0} → (X → List Y) → List X → List Y
 gather p [] = []
 gather p (x ∷ xs) = p x ++ gather p xs
 
--- The next labels of the sound choices, where the members of `members` below k are still to be expanded and `handed` was handed on so far:
--- from the greatest number down, with two branches only at a member that is an or, an until or a release.
+-- The next labels of the sound choices, where the members below k are still to be expanded, and `handed` is handed on so far.
+-- It goes from the greatest number down, with two branches only at a member that is an or, an until or a release.
 abbrev pub branches : Meaning → Contents → (code : ℕ) → Next → (k : ℕ) → (members handed : Label) → List Label
 branches m b c n zero members handed = handed ∷ []
 branches m b c n (suc k) members handed =
@@ -116,6 +116,10 @@ abbrev pub fresh : (seen : List Position) → List Position → List Position
 fresh seen [] = []
 fresh seen (s ∷ ss) = cond (any (alike s) seen) (fresh seen ss) (s ∷ fresh (s ∷ seen) ss)
 
+-- the positions one step from a layer that were not seen before, each once
+abbrev pub next-layer : Question → (seen layer : List Position) → List Position
+next-layer q seen layer = fresh seen (gather (steps q) layer)
+
 -- An answer: a shortest continuation's number of visits, or that there is none, each with the number of counted positions;
 -- or that there were too few rows, with their number.
 pub data Answer : Type 0 where
@@ -131,8 +135,8 @@ layers (suc k) q rows d seen [] = cond (ltb rows (length seen)) (short rows) (ca
 layers (suc k) q rows d seen (s ∷ ss) =
     cond (ltb rows (length seen)) (short rows)
     (cond (any (ends q) (s ∷ ss)) (can (suc d) (length seen))
-    (layers k q rows (suc d) (fresh seen (gather (steps q) (s ∷ ss)) ++ seen) (fresh seen (gather (steps q) (s ∷ ss)))))
+    (layers k q rows (suc d) (next-layer q seen (s ∷ ss) ++ seen) (next-layer q seen (s ∷ ss))))
 
--- THE ANSWER to a question with a number of rows
+-- THE ANSWER to a question with a number of rows: the layers from the starting positions on.
 abbrev pub answer : Question → (rows : ℕ) → Answer
 answer q rows = layers (suc rows) q rows 0 (fresh [] (starts q)) (fresh [] (starts q))
