@@ -1,7 +1,7 @@
 -- The branches of a label are the next labels of its sound choices.
-use mathlib.Core.Path.{_≡_, refl, sym, _∙_, ap, subst, subst⁻¹}
-use mathlib.Core.Bool.{Bool, true, false, cond, not}
-use mathlib.Core.List.{List, [], _∷_}
+use mathlib.Core.Path.{_≡_, refl, sym, _∙_, subst, subst⁻¹}
+use mathlib.Core.Bool.{true, false, cond}
+use mathlib.Core.List.{List, []}
 use mathlib.Core.Logic.{_⊎_, inl, inr, _↔_}
 use Prim.Native.Nat.{ℕ, zero, suc, _≤_, _<_}
 use native.Mathlib.Nat.{eq-or-lt-of-le}
@@ -16,8 +16,8 @@ use Rattle.ltlf.specs.declared.node.Node.{Node}
 use Rattle.ltlf.specs.declared.node.Node.the-variants.{True, False, Atom, NotAtom, And, Or, Tomorrow, WeakTomorrow, Until, Release}
 use Rattle.judge.specs.Formulas.{node-at, Among}
 use Rattle.tableau.specs.Labels.{Label, _∈_, has, adding}
-use Rattle.tableau.specs.Expansion.{Choice, Side, one, other, parts, handed-on, Expansion, Goes-on, Admitted, Sound, Handed-on, Next-label}
-use Rattle.tableau.specs.Masks.{expanded-below, expanded, next-of}
+use Rattle.tableau.specs.Expansion.{Choice, Side, one, other, parts, handed-on, Goes-on, Admitted, Sound, Next-label}
+use Rattle.tableau.specs.Masks.{expanded-below, next-of}
 use Rattle.tableau.specs.Positions.{In}
 use Rattle.tableau.specs.Search.{goes-on, admitted, sides, gather, branches, next-labels}
 use Rattle.tableau.specs.Theorems.{Next-labels-are-computed}

@@ -1,24 +1,18 @@
 -- The paths of the positions are the histories.
 use mathlib.Core.Path.{_≡_, refl, sym, _∙_, ap, subst, subst⁻¹, subst₂}
 use mathlib.Core.List.{List, [], _∷_, _++_}
-use mathlib.Core.Logic.{_⊎_, inl, inr, _↔_}
-use Prim.Native.Nat.{ℕ, zero, suc, pred, min, _+_, _-_, _^_, _≤_, _<_}
+use Prim.Native.Nat.{ℕ, zero, suc, pred, min, _+_, _^_, _≤_, _<_}
 use native.Mathlib.Decide.{decLt, decLe}
 use native.Mathlib.Nat.{le-of-suc-le-suc}
 use native.Mathlib.Omega.{arith}
-use lib.ListN.{length, getD, drop, length-append}
+use lib.ListN.{length, drop, length-append}
 use lib.Seq.{drop-cons}
-use Rattle.theory.specs.Meaning.{Meaning}
-use Rattle.theory.specs.declared.next.Next.{Next}
 use Rattle.theory.specs.declared.next.Next.the-variants.{Code, Last}
-use Rattle.ltlf.specs.Contents.{Contents, Proper}
-use Rattle.judge.specs.Formulas.{formula, Among}
 use Rattle.judge.specs.Histories.{visit, after, first}
-use Rattle.judge.specs.Holding.{Holds, Meets}
-use Rattle.tableau.specs.Labels.{Label, _∈_}
-use Rattle.tableau.specs.Expansion.{Choice, Goes-on, Sound, Handed-on}
-use Rattle.tableau.specs.Positions.{Position, Question, Starts, Step, Ends, Path, stay, go, codes-on, Reached, Distance, Least-end, Visited, last-place}
-use Rattle.tableau.specs.Continuations.{All-codes, Begins, Continuation, Possible, Shortest, Impossible, Well-posed, Leads}
+use Rattle.tableau.specs.Labels.{_∈_}
+use Rattle.tableau.specs.Expansion.{Goes-on, Sound}
+use Rattle.tableau.specs.Positions.{Position, Question, Starts, Step, Ends, Path, stay, go, codes-on, Reached, Least-end, Visited, last-place}
+use Rattle.tableau.specs.Continuations.{All-codes, Begins, Continuation, Possible, Well-posed, Leads}
 use Rattle.tableau.specs.Masks.{next-of}
 use Rattle.tableau.specs.Theorems.{All-hold, Paths-are-histories, Chains-are-histories, Lengths-are-reached, Shortest-is-least, None-is-none, Reached-is-bounded}
 use Rattle.tableau.proofs.Steps.{step-sound, step-complete, inside-code}

@@ -1,12 +1,12 @@
 -- Labels as numbers: their members, and that the computed expansion and next label have the members that they should.
-use mathlib.Core.Path.{_≡_, refl, sym, _∙_, ap, ap₂, subst, subst⁻¹}
+use mathlib.Core.Path.{_≡_, refl, sym, _∙_, ap, subst, subst⁻¹}
 use mathlib.Core.List.{List, [], _∷_}
-use mathlib.Core.Bool.{Bool, true, false, cond}
+use mathlib.Core.Bool.{Bool, true, false}
 use mathlib.Core.Logic.{_⊎_, inl, inr, _↔_}
-use Prim.Native.Nat.{ℕ, zero, suc, _+_, _-_, _*_, _/_, _%_, _^_, _≤_, _<_}
+use Prim.Native.Nat.{ℕ, zero, suc, _+_, _/_, _%_, _^_, _≤_, _<_}
 use native.Mathlib.Nat.{eq-or-lt-of-le}
 use native.Mathlib.Numerals.{one-add}
-use native.Mathlib.Decide.{map-dec, decLt, ℕ-discrete}
+use native.Mathlib.Decide.{decLt}
 use native.Mathlib.Omega.{arith}
 use lib.Bits.{bitOr, or-shr, or-mod}
 use lib.Dec.{T, eqb, eqb→eq, eqb-refl}
@@ -19,7 +19,7 @@ use Rattle.ltlf.specs.declared.node.Node.the-variants.{True, False, Atom, NotAt
 use Rattle.judge.specs.Formulas.{node-at, Among}
 use Rattle.judge.proofs.Trees.{operands-before}
 use Rattle.tableau.specs.Labels.{Label, _∈_, has, adding}
-use Rattle.tableau.specs.Expansion.{Choice, Side, one, other, parts, handed-on, Expansion, member, part, Handed-on, Next-label}
+use Rattle.tableau.specs.Expansion.{Choice, Side, one, other, parts, handed-on, Expansion, member, part, Next-label}
 use Rattle.tableau.specs.Masks.{expanded-below, expanded, handed-below, next-of}
 use Rattle.tableau.specs.Theorems.{Same-members, Expansion-is-computed, Next-is-computed}
 use Rattle.tableau.proofs.Steps.{part-before}

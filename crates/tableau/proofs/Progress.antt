@@ -6,7 +6,7 @@ use Prim.Native.Nat.{ℕ, zero, suc, _≤_, _<_}
 use native.Mathlib.Nat.{eq-or-lt-of-le}
 use native.Mathlib.Decide.{decLe}
 use native.Mathlib.Omega.{arith}
-use Rattle.tableau.specs.Positions.{Position, Question, Starts, Step, Ends, Path, stay, go, Reached, Distance, No-end, Least-end, Counted, Rows, In, Distinct}
+use Rattle.tableau.specs.Positions.{Position, Question, Starts, Step, Ends, Path, stay, Reached, Distance, No-end, Least-end, Counted, Rows, In, Distinct}
 use Rattle.tableau.proofs.Layers.{closed-reached, reached-by-step, layer-by-layer, counted-if-ends, counted-if-none}
 use Rattle.tableau.proofs.Computed.{in?}
 

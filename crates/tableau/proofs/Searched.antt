@@ -3,17 +3,17 @@ use mathlib.Core.Path.{_≡_, refl, sym, _∙_, ap, ap₂, subst, subst⁻¹}
 use mathlib.Core.Bool.{Bool, true, false, cond}
 use mathlib.Core.List.{List, [], _∷_, _++_}
 use mathlib.Core.Logic.{_⊎_, inl, inr, _↔_}
-use Prim.Native.Nat.{ℕ, zero, suc, pred, _+_, _*_, _^_, _≤_, _<_}
+use Prim.Native.Nat.{ℕ, zero, suc, _+_, _*_, _^_, _≤_, _<_}
 use native.Mathlib.Nat.{mul-one}
 use native.Mathlib.Omega.{arith}
 use lib.Dec.{ltb}
 use lib.ListN.{length, length-append}
 use Rattle.std.proofs.shelf.Tests.{ltb-true, ltb-false}
-use Rattle.tableau.specs.Positions.{Position, Question, Step, Reached, Distance, No-end, Least-end, Counted, Rows, In, Distinct, last-place}
-use Rattle.tableau.specs.Continuations.{Well-posed, Possible, Shortest, Impossible}
+use Rattle.tableau.specs.Positions.{Position, Question, Step, No-end, Least-end, Counted, Rows, In, Distinct, last-place}
+use Rattle.tableau.specs.Continuations.{Well-posed, Shortest, Impossible}
 use Rattle.tableau.specs.Search.{any, gather, below, ends, steps, starts, fresh, Answer, can, cannot, short, layers, answer}
 use Rattle.tableau.specs.Theorems.{Says, Answer-is-right, Counted-are-finite, Counted-are-bounded, Questions-are-decided}
-use Rattle.tableau.proofs.Histories.{shortest-is-least, none-is-none, possible-visits, reached-bounded}
+use Rattle.tableau.proofs.Histories.{shortest-is-least, none-is-none, reached-bounded}
 use Rattle.tableau.proofs.Progress.{Progress, begin, advance, end-found, exhausted, seen-counted}
 use Rattle.tableau.proofs.Tests.{no-way, in-append, in-below, any-ok, gather-ok}
 use Rattle.tableau.proofs.Computed.{ends-ok, steps-ok, starts-ok, fresh-ok, fresh-distinct}

@@ -1,21 +1,18 @@
 -- One step of the tableau: what holds at a visit, and what a sound expansion asks of it.
-use mathlib.Core.Path.{_≡_, refl, sym, subst, subst⁻¹}
-use mathlib.Core.Bool.{true, false}
+use mathlib.Core.Path.{_≡_, refl, subst, subst⁻¹}
 use mathlib.Core.List.{List, [], _∷_}
-use mathlib.Core.Logic.{_⊎_, inl, inr}
-use Prim.Native.Nat.{ℕ, zero, suc, _+_, _≤_, _<_}
-use native.Mathlib.Nat.{eq-or-lt-of-le, le-refl, le-of-suc-le-suc}
+use mathlib.Core.Logic.{inl, inr}
+use Prim.Native.Nat.{ℕ, zero, suc, _<_}
+use native.Mathlib.Nat.{eq-or-lt-of-le}
 use native.Mathlib.Omega.{arith}
-use lib.ListN.{length, drop}
+use lib.ListN.{length}
 use Rattle.theory.specs.Meaning.{Meaning}
-use Rattle.theory.specs.declared.next.Next.{Next}
-use Rattle.theory.specs.declared.next.Next.the-variants.{Code, Last}
 use Rattle.ltlf.specs.Nodes.{operands}
 use Rattle.ltlf.specs.Contents.{Contents, Proper}
 use Rattle.ltlf.specs.declared.node.Node.{Node}
 use Rattle.ltlf.specs.declared.node.Node.the-variants.{True, False, Atom, NotAtom, And, Or, Tomorrow, WeakTomorrow, Until, Release}
-use Rattle.judge.specs.Formulas.{Formula, truth, falsity, atom, negated-atom, both, either, tomorrow, weak-tomorrow, until, release, formed, formula, node-at, Among}
-use Rattle.judge.specs.Histories.{visit, after, first}
+use Rattle.judge.specs.Formulas.{either, until, release, formed, formula, node-at, Among}
+use Rattle.judge.specs.Histories.{visit, after}
 use Rattle.judge.specs.Holding.{Holds}
 use Rattle.judge.proofs.Unfolding.{until-now, until-later, until-split, release-now, release-later, release-holds, release-split}
 use Rattle.judge.proofs.Deciding.{holds?}

@@ -7,7 +7,7 @@ use lib.Dec.{eqb}
 use Rattle.theory.specs.declared.next.Next.{Next}
 use Rattle.theory.specs.declared.next.Next.the-variants.{Code, Last}
 use Rattle.ltlf.specs.declared.node.Node.{Node}
-use Rattle.ltlf.specs.declared.node.Node.the-variants.{True, False, Atom, NotAtom, And, Or, Tomorrow, WeakTomorrow, Until, Release}
+use Rattle.ltlf.specs.declared.node.Node.the-variants.{True, False, Atom, NotAtom, And, Tomorrow, WeakTomorrow, Until, Release}
 use Rattle.tableau.specs.Positions.{Question}
 use Rattle.tableau.specs.Continuations.{Well-posed}
 use Rattle.tableau.specs.Search.{Answer, can, cannot, short, answer}

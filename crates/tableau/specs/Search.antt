@@ -123,7 +123,7 @@ next-layer q seen layer = fresh seen (gather (steps q) layer)
 -- An answer: a shortest continuation's number of visits, or that there is none, each with the number of counted positions;
 -- or that there were too few rows, with their number.
 pub data Answer : Type 0 where
-  can : (length rows : ℕ) → Answer
+  can : (visits rows : ℕ) → Answer
   cannot : (rows : ℕ) → Answer
   short : (rows : ℕ) → Answer
 
