@@ -122,7 +122,7 @@ adding-has f (g ∷ gs) L = (
     back ih (inl (inr a)) = or-has f (adding gs L) (2 ^ g) .1 (inl (ih (inl a)))
     back ih (inr m) = or-has f (adding gs L) (2 ^ g) .1 (inl (ih (inr m)))
 
--- THE SPREAD
+-- THE EXPANSION
 
 module _ (b : Contents) (pr : Proper b) (κ : Choice) (L : Label) where
   all : (S : Label) → ((f : ℕ) → f ∈ L → f ∈ S) → ((f g : ℕ) → 0 ≤ f → f ∈ S → Among g (parts (node-at b f) (κ f)) → g ∈ S)

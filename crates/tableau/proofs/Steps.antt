@@ -36,7 +36,7 @@ inside-code (c ∷ σ) (suc i) h = inside-code σ i (omega arith)
 
 -- SOUNDNESS
 
--- a node whose parts and whose later formulas hold
+-- a node whose parts hold here, and what it hands on at the next visit
 node-sound : (t : Meaning) (b : Contents) (σ : List ℕ) (i : ℕ) → i < length σ → (f : ℕ) (m : Node) (s : Side)
     → formula b f ≡ formed (formula b) m
     → Admitted t (visit σ i) (after σ i) m s
