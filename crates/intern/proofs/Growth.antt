@@ -1,6 +1,6 @@
 -- Indexed cells stay indexed when a record is added where its walk ended.
 use mathlib.Core.Bool.{Bool, true, false}
-use mathlib.Core.List.{List}
+use mathlib.Core.List.{List, _∷_}
 use mathlib.Core.Logic.{_⊎_, _≢_, inl, inr, ⊎-elim}
 use mathlib.Core.Path.{_≡_, refl, sym, ap, subst, _∙_}
 use Prim.Native.Nat.{ℕ, zero, suc, _+_, _<_, _≤_}
@@ -9,18 +9,17 @@ use native.Mathlib.Numerals.{add-one}
 use native.Mathlib.Omega.{arith}
 use Rattle.std.proofs.shelf.Lists.{length-set, getD-set-same, getD-set-other, getD-default}
 use Rattle.std.proofs.shelf.Tests.{cases-eq}
-use Rattle.std.specs.declared.option.Option.{Option}
 use Rattle.std.specs.declared.option.Option.the-variants.{Some, None}
 use Rattle.intern.specs.declared.cell.Cell.{Cell}
-use Rattle.intern.specs.declared.descent.End.{End}
-use Rattle.intern.specs.declared.descent.End.the-variants.{Here, Gap, Broken}
+use Rattle.intern.specs.declared.descent.End.the-variants.{Here, Gap}
 use Rattle.intern.specs.Entry.{hung}
+use Rattle.intern.specs.Index.{Indexed}
 use Rattle.intern.specs.Links.{leaf, child-of, linked}
 use Rattle.intern.specs.Walk.{walk, found-at, lookup}
 use Rattle.intern.proofs.Ends.{here-gap, here-broken, gap-broken, same-gap, gap-found, reached-is}
-use Rattle.intern.proofs.Index.{Index}
+use Rattle.intern.proofs.Index.{Index, from-index}
 use Rattle.intern.proofs.Indexes.{some-none, found-here, started}
-use Rattle.intern.proofs.Walks.{Step, at-item, at-gap, along, astray, step, walk-here, walk-next}
+use Rattle.intern.proofs.Walks.{at-item, at-gap, along, astray, step, walk-here, walk-next}
 
 child-linked : {R : Type 0} (h : Cell R) (s u : Bool) (n a : ℕ) → child-of (linked h s n) u ≡ Some a → (a ≡ n) ⊎ (child-of h u ≡ Some a)
 child-linked h true true n a e = inl (cc)
@@ -212,3 +211,8 @@ module _ {R : Type 0} (alike : R → R → Bool) (turns : R → ℕ → Bool) (o
             ∙ lookup-from alike turns ds n r 0 fits (walk-here alike turns ds (suc n) r n 0 0 (ap (λ (c : Cell R). alike (c .item) r) (at-zero (leaf r)) ∙ own r))
             ∙ ap (λ (x : ℕ). Some x) (sym k0);
       }
+
+-- one record in the first cell is indexed
+pub indexed-one : {R : Type 0} (alike : R → R → Bool) (turns : R → ℕ → Bool) → ((x : R) → alike x x ≡ true)
+    → (r : R) (rest : List (Cell R)) → Indexed alike turns (leaf r ∷ rest) 1
+indexed-one alike turns own r rest = from-index alike turns (leaf r ∷ rest) 1 (indexed-first alike turns own (leaf r ∷ rest) 0 r refl (omega arith))

@@ -3,7 +3,7 @@ use mathlib.Core.Bool.{Bool, true, false}
 use mathlib.Core.List.{List}
 use mathlib.Core.Logic.{⊎-elim}
 use mathlib.Core.Path.{_≡_, refl, sym, ap, ap₂, _∙_}
-use Prim.Native.Nat.{ℕ, zero, suc, _+_, _<_, _≤_}
+use Prim.Native.Nat.{ℕ, zero, suc, _<_, _≤_}
 use lib.ListN.{length, getD}
 use native.Mathlib.Omega.{arith}
 use Rattle.std.proofs.shelf.Tests.{cases-lt, cond-false, lt-leb}
@@ -30,7 +30,7 @@ same-tests true c to from = sym (to refl)
 same-tests false true to from = from refl
 same-tests false false to from = refl
 
-false-from : (b : Bool) → (b ≡ true → ⊥) → b ≡ false
+pub false-from : (b : Bool) → (b ≡ true → ⊥) → b ≡ false
 false-from true no-way = absurd (no-way refl)
 false-from false no-way = refl
 

@@ -1,0 +1,4 @@
+pub mod Model
+pub mod Meaning
+pub mod Ranges
+pub mod Filling
