@@ -1,6 +1,7 @@
 pub mod Bounds
 pub mod Filled
 pub mod Grids
+pub mod Limited
 pub mod Means
 pub mod Products
 pub mod Readings

@@ -20,6 +20,7 @@ pub use holds::NumbersTheory;
 pub use numbers::Numbers;
 pub use print::NumbersPrintable;
 pub use print::values_tell_codes;
+pub use read::numbers_are_within;
 pub use term::Comparison;
 pub use term::Moment;
 pub use term::Term;

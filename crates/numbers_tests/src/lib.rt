@@ -85,9 +85,21 @@ mod tests {
     #[test]
     fn marks_decide_at_the_last_visit() -> Result<(), Fail> {
         let mut t = Numbers::with_variable(b"t", 0, 2)?;
-        t.add_atom(&[term(1, 0, Moment::Next), term(-1, 0, Moment::Now)], Comparison::Equal, 1)?;
-        t.add_atom(&[term(1, 0, Moment::WeakNext), term(-1, 0, Moment::Now)], Comparison::Equal, 1)?;
-        t.add_atom(&[term(1, 0, Moment::WeakNext), term(1, 0, Moment::Next)], Comparison::Less, 9)?;
+        t.add_atom(
+            &[term(1, 0, Moment::Next), term(-1, 0, Moment::Now)],
+            Comparison::Equal,
+            1,
+        )?;
+        t.add_atom(
+            &[term(1, 0, Moment::WeakNext), term(-1, 0, Moment::Now)],
+            Comparison::Equal,
+            1,
+        )?;
+        t.add_atom(
+            &[term(1, 0, Moment::WeakNext), term(1, 0, Moment::Next)],
+            Comparison::Less,
+            9,
+        )?;
         t.add_atom(&[term(1, 0, Moment::Now)], Comparison::Equal, 2)?;
         check_eq(t.holds(0, 0, Next::Code(1))?, true)?;
         check_eq(t.holds(0, 0, Next::Last)?, false)?;
