@@ -5,5 +5,6 @@ pub mod Means
 pub mod Products
 pub mod Readings
 pub mod Rosters
+pub mod Shown
 pub mod Sums
 pub mod Terms
