@@ -6,16 +6,21 @@ use flags::Flags;
 use flags::FlagsTheory;
 use judge::Judgement;
 use judge::judge;
+use ltlf::Book;
 use ltlf::Draft;
+use numbers::Numbers;
+use numbers::NumbersTheory;
 use refusal::Refusal;
 use report::Standing;
 use report::kept_line;
 use report::refused_line;
 use report::stands_line;
+use sheet_text::Heading;
 use sheet_text::read_sheet;
 use std::io;
 use std::io::Read;
 use std::io::Write;
+use theory::Theory;
 
 /// Fills the buffer from the input, and returns how many bytes came; a longer input is cut.
 fn fill(input: &mut io::Stdin, buffer: &mut [u8]) -> io::Result<usize> {
@@ -54,26 +59,41 @@ fn standing_of(judged: Result<Judgement, Refusal>) -> Standing
     }
 }
 
+/// Writes the report of an accepted sheet: how many notes are kept, and whether they meet the rules of the book.
+fn report<T: Theory>(
+    theory: &T,
+    book: &Book,
+    visits: &[u16],
+    out: &mut io::Stdout,
+) -> io::Result<()> {
+    let mut line = [0u8; 64];
+    let made = kept_line(&mut line, visits.len() as u64);
+    pass_on(out, &line, made)?;
+    let standing = standing_of(judge(theory, book, visits));
+    let made = stands_line(&mut line, standing);
+    pass_on(out, &line, made)
+}
+
 /// Reads the sheet and writes its report.
 fn run(bytes: &[u8], out: &mut io::Stdout) -> io::Result<()> {
     let mut draft = Draft::new();
     let mut flags = Flags::fresh();
+    let mut numbers = Numbers::fresh();
     let mut visits = [0u16; 1024];
-    let mut line = [0u8; 64];
-    let sheet = match read_sheet(bytes, &mut draft, &mut flags, &mut visits) {
+    let sheet = match read_sheet(bytes, &mut draft, &mut flags, &mut numbers, &mut visits) {
         Ok(sheet) => sheet,
         Err(refusal) => {
+            let mut line = [0u8; 64];
             let made = refused_line(&mut line, refusal);
             return pass_on(out, &line, made);
         }
     };
     let book = draft.seal();
     let kept = sheet.notes.min(1024);
-    let made = kept_line(&mut line, kept as u64);
-    pass_on(out, &line, made)?;
-    let standing = standing_of(judge(&flags, &book, &visits[0..kept]));
-    let made = stands_line(&mut line, standing);
-    pass_on(out, &line, made)
+    match sheet.heading {
+        Heading::Flags => report(&flags, &book, &visits[0..kept], out),
+        Heading::Numbers => report(&numbers, &book, &visits[0..kept], out),
+    }
 }
 
 fn main(rt: LibcRuntime) -> io::Result<()> {

@@ -11,6 +11,12 @@ use Rattle.std.specs.declared.result.Result.the-variants.{Ok, Err}
 use Rattle.items.specs.Lines.{behind, lines-of}
 use Rattle.items.specs.Numbers.{Reading, natural-read}
 use Rattle.items.specs.Trailers.{and-text, and-read, whole}
+use Rattle.flags.specs.Model.{FlagsModel}
+use Rattle.numbers.specs.Model.{NumbersModel}
+use Rattle.numbers.specs.Values.{VariableModel}
+use Rattle.number_text.specs.Values as number
+use Rattle.sheet_text.specs.declared.heading.Heading.{Heading}
+use Rattle.sheet_text.specs.declared.heading.Heading.the-variants.{Flags, Numbers}
 use Rattle.sheet_text.specs.Lines.{lines-read}
 
 -- a first bit, and the code of the flags after it
@@ -33,9 +39,18 @@ values-read zero bs = None
 values-read (suc zero) bs = value-alone bs
 values-read (suc (suc n)) bs = and-read (natural-read 1 bs) (λ bit rest. and-text (behind (32 ∷ []) rest) (λ bs. above bit (values-read (suc n) bs)))
 
--- a line of a note: n and the values
+-- a line of a note of flags: n, a space and the values
 abbrev pub note-read : (flags : ℕ) → (line : List ℕ) → Option ℕ
 note-read flags line = and-text (behind (110 ∷ 32 ∷ []) line) (values-read flags)
+
+-- a line of a note of numbers: n, and a space and a value for each variable
+abbrev pub number-note-read : List VariableModel → (line : List ℕ) → Option ℕ
+number-note-read vs line = and-text (behind (110 ∷ []) line) (number.values-read vs 0)
+
+-- a line of a note, as it is written under a heading
+abbrev pub note-by : Heading → FlagsModel → NumbersModel → (line : List ℕ) → Option ℕ
+note-by Flags m k line = note-read (length (m .names)) line
+note-by Numbers m k line = number-note-read (k .variables) line
 
 -- one more note, if there is room
 abbrev pub one-more : (room count : ℕ) → Option ℕ → Option ℕ
@@ -43,8 +58,8 @@ one-more room count None = None
 one-more room count (Some code) = cond (ltb count room) (Some (count + 1)) None
 
 -- the number of notes after one more line
-abbrev pub note-counted : (flags room count : ℕ) → (line : List ℕ) → Option ℕ
-note-counted flags room count line = one-more room count (note-read flags line)
+abbrev pub note-counted : (note : List ℕ → Option ℕ) → (room count : ℕ) → (line : List ℕ) → Option ℕ
+note-counted note room count line = one-more room count (note line)
 
 -- the code of a line that is a note
 abbrev pub code-or-zero : Option ℕ → ℕ
@@ -52,9 +67,9 @@ code-or-zero None = 0
 code-or-zero (Some code) = code
 
 -- the codes of lines that are notes
-abbrev pub codes-of : (flags : ℕ) → List (List ℕ) → List ℕ
-codes-of flags [] = []
-codes-of flags (l ∷ ls) = code-or-zero (note-read flags l) ∷ codes-of flags ls
+abbrev pub codes-of : (note : List ℕ → Option ℕ) → List (List ℕ) → List ℕ
+codes-of note [] = []
+codes-of note (l ∷ ls) = code-or-zero (note l) ∷ codes-of note ls
 
 -- codes in the first entries of a list, whose other entries stay
 abbrev pub over : (codes visits : List ℕ) → List ℕ
@@ -71,11 +86,11 @@ abbrev pub noted : Result ℕ ℕ → List ℕ → Noted
 noted r visits = (r, visits)
 
 -- the codes are written only where every line is right
-abbrev pub if-right : (flags : ℕ) → Result ℕ ℕ → List (List ℕ) → (visits : List ℕ) → Noted
-if-right flags (Ok count) ls visits = (Ok count, over (codes-of flags ls) visits)
-if-right flags (Err place) ls visits = (Err place, visits)
+abbrev pub if-right : (note : List ℕ → Option ℕ) → Result ℕ ℕ → List (List ℕ) → (visits : List ℕ) → Noted
+if-right note (Ok count) ls visits = (Ok count, over (codes-of note ls) visits)
+if-right note (Err place) ls visits = (Err place, visits)
 
 -- notes from a place on, at most as many as the visit list has entries, and at most 1,024
-abbrev pub notes-read : (flags place : ℕ) → (notes : List ℕ) → (visits : List ℕ) → Noted
-notes-read flags place bs visits =
-    if-right flags (lines-read (note-counted flags (min (length visits) 1024)) place (lines-of bs) 0) (lines-of bs) visits
+abbrev pub notes-read : (note : List ℕ → Option ℕ) → (place : ℕ) → (notes : List ℕ) → (visits : List ℕ) → Noted
+notes-read note place bs visits =
+    if-right note (lines-read (note-counted note (min (length visits) 1024)) place (lines-of bs) 0) (lines-of bs) visits

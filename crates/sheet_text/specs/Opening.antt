@@ -16,22 +16,22 @@ use Rattle.sheet_text.specs.Lines.{lines-read, section}
 use Rattle.sheet_text.specs.declared.opening.Stage.{Stage}
 use Rattle.sheet_text.specs.declared.opening.Stage.the-variants.{Start, Headed, Variables, Atoms}
 
--- how far the lines have come, and the flags so far
-abbrev pub Opened : Type 0
-Opened = Stage × FlagsModel
+-- how far the lines have come, and the theory so far
+abbrev pub Opened : Type 0 → Type 0
+Opened M = Stage × M
 
--- what a line gave, with the flags after it
-abbrev pub opened : Option Stage → FlagsModel → Option Opened
+-- what a line gave, with the theory after it
+abbrev pub opened : {M : Type 0} → Option Stage → M → Option (Opened M)
 opened (Some s) m = Some (s, m)
 opened None m = None
 
--- a stage is reached with flags, unless they were refused
-abbrev pub reached : {U : Type 0} → Stage → Result U FillRefusal → FlagsModel → Option Opened
+-- a stage is reached with a theory, unless that was refused
+abbrev pub reached : {U M : Type 0} → Stage → Result U FillRefusal → M → Option (Opened M)
 reached s (Ok u) m = Some (s, m)
 reached s (Err e) m = None
 
--- the first flag makes the flags
-abbrev pub begun : Result FlagsModel FillRefusal → Option Opened
+-- the first flag or variable makes the theory
+abbrev pub begun : {M : Type 0} → Result M FillRefusal → Option (Opened M)
 begun (Ok m) = Some (Variables, m)
 begun (Err e) = None
 
@@ -48,53 +48,53 @@ heading-stage Variables = None
 heading-stage Atoms = None
 
 -- nothing follows the heading
-abbrev pub whole-heading : Option Stage → FlagsModel → (rest : List ℕ) → Option Opened
+abbrev pub whole-heading : {M : Type 0} → Option Stage → M → (rest : List ℕ) → Option (Opened M)
 whole-heading stage m [] = opened stage m
 whole-heading stage m (b ∷ bs) = None
 
 -- a flag follows the heading or another flag
-abbrev pub flag-read : Stage → FlagsModel → (name : List ℕ) → Option Opened
+abbrev pub flag-read : Stage → FlagsModel → (name : List ℕ) → Option (Opened FlagsModel)
 flag-read Start m name = None
 flag-read Headed m name = begun (started name)
 flag-read Variables m name = reached Variables (flag-answer m name) (flag-leaves m name)
 flag-read Atoms m name = None
 
 -- an atom follows a flag or another atom
-abbrev pub atom-read : Stage → FlagsModel → (name : List ℕ) → Option Opened
+abbrev pub atom-read : Stage → FlagsModel → (name : List ℕ) → Option (Opened FlagsModel)
 atom-read Start m name = None
 atom-read Headed m name = None
 atom-read Variables m name = reached Atoms (atom-answer m name) (atom-leaves m name)
 atom-read Atoms m name = reached Atoms (atom-answer m name) (atom-leaves m name)
 
 -- the line of a flag has one name
-abbrev pub flag-line : Stage → FlagsModel → (text : List ℕ) → Option Opened
+abbrev pub flag-line : Stage → FlagsModel → (text : List ℕ) → Option (Opened FlagsModel)
 flag-line stage m text = and-text (only (name-read text)) (flag-read stage m)
 
 -- the line of an atom has one name
-abbrev pub atom-line : Stage → FlagsModel → (text : List ℕ) → Option Opened
+abbrev pub atom-line : Stage → FlagsModel → (text : List ℕ) → Option (Opened FlagsModel)
 atom-line stage m text = and-text (only (name-read text)) (atom-read stage m)
 
 -- what follows a head, or else
-abbrev pub by-head : Option (List ℕ) → (List ℕ → Option Opened) → Option Opened → Option Opened
+abbrev pub by-head : {X : Type 0} → Option (List ℕ) → (List ℕ → Option X) → Option X → Option X
 by-head (Some rest) f else = f rest
 by-head None f else = else
 
 -- a line before the rules: v NAME, a NAME or flags
-abbrev pub declaration-read : Opened → (line : List ℕ) → Option Opened
+abbrev pub declaration-read : Opened FlagsModel → (line : List ℕ) → Option (Opened FlagsModel)
 declaration-read s line =
     by-head (behind (118 ∷ 32 ∷ []) line) (flag-line (s .0) (s .1))
     (by-head (behind (97 ∷ 32 ∷ []) line) (atom-line (s .0) (s .1))
     (by-head (behind (102 ∷ 108 ∷ 97 ∷ 103 ∷ 115 ∷ []) line) (whole-heading (heading-stage (s .0)) (s .1)) None))
 
--- at least one flag was named before the lines end; else the end is the wrong place
+-- at least one flag or variable was named before the lines end; else the end is the wrong place
 abbrev pub ended-at : (end : ℕ) → Stage → Result (Unit {0}) ℕ
 ended-at end Start = Err end
 ended-at end Headed = Err end
 ended-at end Variables = Ok tt
 ended-at end Atoms = Ok tt
 
--- the flags at the end of the lines
-abbrev pub whole-opening : (end : ℕ) → Result Opened ℕ → Result FlagsModel ℕ
+-- the theory at the end of the lines
+abbrev pub whole-opening : {M : Type 0} → (end : ℕ) → Result (Opened M) ℕ → Result M ℕ
 whole-opening end (Err place) = Err place
 whole-opening end (Ok s) = section (ended-at end (s .0)) (s .1)
 

@@ -12,15 +12,19 @@ use Rattle.refusal.specs.declared.SheetRefusal.{SheetRefusal}
 use Rattle.refusal.specs.declared.SheetRefusal.the-variants.{Bytes, Trailer, Opening, Rule, Note}
 use Rattle.flags.specs.Model.{FlagsModel}
 use Rattle.flags.specs.Filling.{fresh-flags}
+use Rattle.numbers.specs.Model.{NumbersModel}
+use Rattle.numbers.specs.Values.{combinations}
+use Rattle.numbers.specs.Filling.{fresh-numbers}
 use Rattle.ltlf.specs.Contents.{Contents, empty, counts-leave}
-use Rattle.items.specs.Lines.{last-start}
-use Rattle.items.specs.Trailers.{trailer-in}
-use Rattle.sheet_text.specs.Opening.{opening-read}
+use Rattle.items.specs.Lines.{line-length, behind, last-start}
+use Rattle.items.specs.Trailers.{whole, trailer-in}
+use Rattle.sheet_text.specs.Opening.{by-head, opening-read}
+use Rattle.sheet_text.specs.NumberOpening.{number-opening-read}
 use Rattle.sheet_text.specs.Rules.{rules-read}
-use Rattle.sheet_text.specs.Notes.{Noted, notes-read}
-use Rattle.sheet_text.specs.declared.sheet.Heading.{Heading}
-use Rattle.sheet_text.specs.declared.sheet.Heading.the-variants.{Flags}
-use Rattle.sheet_text.specs.declared.sheet.Sheet.{Sheet}
+use Rattle.sheet_text.specs.Notes.{Noted, note-read, number-note-read, notes-read}
+use Rattle.sheet_text.specs.declared.heading.Heading.{Heading}
+use Rattle.sheet_text.specs.declared.heading.Heading.the-variants.{Flags, Numbers}
+use Rattle.sheet_text.specs.declared.heading.Sheet.{Sheet}
 
 -- a byte of a sheet is a line end, or a space, or visible
 abbrev pub sheet-byte : ℕ → Bool
@@ -35,38 +39,43 @@ sheet-bytes (b ∷ bs) = sheet-byte b && sheet-bytes bs
 abbrev pub sheet-text : List ℕ → Bool
 sheet-text bs = leb 1 (length bs) && (leb (length bs) 65536 && (sheet-bytes bs && eqb (getD bs (length bs - 1) 0) 10))
 
--- What a call answers, and what the draft, the flags and the visit list hold after it.
+-- What a call answers, and what the draft, the flags, the numbers and the visit list hold after it.
 pub record After : Type 0 where
   pub answer : Result Sheet SheetRefusal
   pub draft : Contents
   pub flags : FlagsModel
+  pub numbers : NumbersModel
   pub visits : List ℕ
 
 -- what a call gave, with what it left
-abbrev pub after : Result Sheet SheetRefusal → Contents → FlagsModel → (visits : List ℕ) → After
-after r b m visits = record { answer = r; draft = b; flags = m; visits = visits }
+abbrev pub after : Result Sheet SheetRefusal → Contents → FlagsModel → NumbersModel → (visits : List ℕ) → After
+after r b m k visits = record { answer = r; draft = b; flags = m; numbers = k; visits = visits }
 
--- a refused sheet leaves an empty draft with both counts 0, fresh flags, and the visit list
+-- a refused sheet leaves an empty draft with both counts 0, fresh flags, fresh numbers, and the visit list
 abbrev pub refused : SheetRefusal → (visits : List ℕ) → After
-refused e visits = after (Err e) (empty 0 0) fresh-flags visits
+refused e visits = after (Err e) (empty 0 0) fresh-flags fresh-numbers visits
 
 -- an accepted sheet has a heading, and a number of notes
-abbrev pub accepted : (notes : ℕ) → Contents → FlagsModel → (visits : List ℕ) → After
-accepted notes b m visits = after (Ok (record { heading = Flags; notes = notes })) b m visits
+abbrev pub accepted : Heading → (notes : ℕ) → Contents → FlagsModel → NumbersModel → (visits : List ℕ) → After
+accepted h notes b m k visits = after (Ok (record { heading = h; notes = notes })) b m k visits
 
--- what was read, where a refusal leaves nothing of the draft and the flags
-abbrev pub settled : Result Sheet SheetRefusal → Contents → FlagsModel → (visits : List ℕ) → After
-settled (Ok s) b m visits = after (Ok s) b m visits
-settled (Err e) b m visits = refused e visits
+-- what was read, where a refusal leaves nothing of the draft, the flags and the numbers
+abbrev pub settled : Result Sheet SheetRefusal → Contents → FlagsModel → NumbersModel → (visits : List ℕ) → After
+settled (Ok s) b m k visits = after (Ok s) b m k visits
+settled (Err e) b m k visits = refused e visits
 
 -- an empty draft with the counts of the flags
 abbrev pub counted : FlagsModel → Contents
 counted m = counts-leave (empty 0 0) (2 ^ length (m .names)) (length (m .atoms))
 
+-- an empty draft with the counts of the numbers
+abbrev pub counted-numbers : NumbersModel → Contents
+counted-numbers k = counts-leave (empty 0 0) (combinations (k .variables)) (length (k .atoms))
+
 -- after the notes: an accepted sheet, or the place of the first wrong note
-abbrev pub after-notes : Contents → FlagsModel → Noted → After
-after-notes b m (Ok notes, visits) = accepted notes b m visits
-after-notes b m (Err place, visits) = refused (Note place) visits
+abbrev pub after-notes : Heading → Contents → FlagsModel → NumbersModel → Noted → After
+after-notes h b m k (Ok notes, visits) = accepted h notes b m k visits
+after-notes h b m k (Err place, visits) = refused (Note place) visits
 
 -- after the rules: the notes, or the place of the first wrong rule
 abbrev pub after-rules : Result Contents ℕ → (visits : List ℕ) → (Contents → After) → After
@@ -74,22 +83,45 @@ after-rules (Ok b) visits f = f b
 after-rules (Err place) visits f = refused (Rule place) visits
 
 -- after the opening: the rules, or the place of its first wrong line
-abbrev pub after-opening : Result FlagsModel ℕ → (visits : List ℕ) → (FlagsModel → After) → After
+abbrev pub after-opening : {M : Type 0} → Result M ℕ → (visits : List ℕ) → (M → After) → After
 after-opening (Ok m) visits f = f m
 after-opening (Err place) visits f = refused (Opening place) visits
 
--- the opening up to the rules, the rules up to the notes, and the notes up to the trailer; the first wrong line is refused
-abbrev pub sections-read : (bytes : List ℕ) → (own rules notes : ℕ) → (visits : List ℕ) → After
-sections-read bytes own r n visits =
+-- a flags sheet: the opening up to the rules, the rules up to the notes, and the notes up to the trailer; the first wrong line is refused
+abbrev pub flag-sections : (bytes : List ℕ) → (own rules notes : ℕ) → (visits : List ℕ) → After
+flag-sections bytes own r n visits =
     after-opening (opening-read (take r bytes) fresh-flags) visits (λ m.
     after-rules (rules-read r (take (n - r) (drop r bytes)) (counted m)) visits (λ b.
-    after-notes b m (notes-read (length (m .names)) n (take (own - n) (drop n bytes)) visits)))
+    after-notes Flags b m fresh-numbers (notes-read (note-read (length (m .names))) n (take (own - n) (drop n bytes)) visits)))
+
+-- a number sheet, likewise
+abbrev pub number-sections : (bytes : List ℕ) → (own rules notes : ℕ) → (visits : List ℕ) → After
+number-sections bytes own r n visits =
+    after-opening (number-opening-read (take r bytes) fresh-numbers) visits (λ k.
+    after-rules (rules-read r (take (n - r) (drop r bytes)) (counted-numbers k)) visits (λ b.
+    after-notes Numbers b fresh-flags k (notes-read (number-note-read (k .variables)) n (take (own - n) (drop n bytes)) visits)))
+
+-- the heading that a line is
+abbrev pub heading-of : (line : List ℕ) → Option Heading
+heading-of line =
+    by-head (behind (102 ∷ 108 ∷ 97 ∷ 103 ∷ 115 ∷ []) line) (whole Flags)
+    (by-head (behind (110 ∷ 117 ∷ 109 ∷ 98 ∷ 101 ∷ 114 ∷ 115 ∷ []) line) (whole Numbers) None)
+
+-- the sections by the heading, or 12 at the first line where it is none
+abbrev pub by-heading : Option Heading → (bytes : List ℕ) → (own rules notes : ℕ) → (visits : List ℕ) → After
+by-heading (Some Flags) bytes own r n visits = flag-sections bytes own r n visits
+by-heading (Some Numbers) bytes own r n visits = number-sections bytes own r n visits
+by-heading None bytes own r n visits = refused (Opening 0) visits
+
+-- the first line decides which sheet it is
+abbrev pub sections-read : (bytes : List ℕ) → (own rules notes : ℕ) → (visits : List ℕ) → After
+sections-read bytes own r n visits = by-heading (heading-of (take (line-length bytes) bytes)) bytes own r n visits
 
 -- a sheet by the places that its trailer names, or 11 at the last line where the trailer is wrong
 abbrev pub by-trailer : (bytes : List ℕ) → Option (ℕ × ℕ) → (visits : List ℕ) → After
 by-trailer bytes None visits = refused (Trailer (last-start bytes)) visits
 by-trailer bytes (Some t) visits = sections-read bytes (last-start bytes) (t .0) (t .1) visits
 
--- a sheet is read into the visit list, a draft and flags, whatever they held
+-- a sheet is read into the visit list, a draft, flags and numbers, whatever they held
 abbrev pub sheet-read : (bytes visits : List ℕ) → After
 sheet-read bytes visits = cond (sheet-text bytes) (by-trailer bytes (trailer-in bytes) visits) (refused Bytes visits)

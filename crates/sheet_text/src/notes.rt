@@ -3,12 +3,18 @@ ghost use mathlib.Core.Path.{_≡_};
 ghost use Prim.Native.Nat.{ℕ, _+_, _-_, _^_, _<_, _≤_, min};
 ghost use lib.ListN.{length};
 ghost use Rattle.items.specs.Lines.{lines-of};
+ghost use Rattle.flags.specs.Model.{flags-of};
+ghost use Rattle.numbers.specs.Model.{numbers-of};
 ghost use Rattle.sheet_text.specs.Lines.{lines-read};
-ghost use Rattle.sheet_text.specs.Notes.{code-below, value-alone, values-read, note-read, note-counted, code-or-zero, codes-of, over, noted, notes-read};
+ghost use Rattle.sheet_text.specs.Notes.{code-below, value-alone, values-read, note-read, number-note-read, note-by, note-counted, code-or-zero, codes-of, over, noted, notes-read};
+use super::heading::Heading;
+use flags::Flags;
 use items::Number;
 use items::natural;
 use items::space;
 use items::split_line;
+use number_text::read_values;
+use numbers::Numbers;
 
 /// The code that a single value writes.
 fn value(text: &[u8]) -> Option<u16>
@@ -40,8 +46,8 @@ fn values(text: &[u8], flags: u8) -> Option<u16>
     Some(bit.value as u16 + 2 * code)
 }
 
-/// The code of a note's line.
-fn note(line: &[u8], flags: u8) -> Option<u16>
+/// The code of a line that is a note of flags.
+fn flag_note(line: &[u8], flags: u8) -> Option<u16>
     requires { ⌜ flags ≤ 12 ⌝ }
     ensures { λ r. ⌜ r ≡ note-read flags (now (line .entry)) ⌝ }
 {
@@ -51,27 +57,60 @@ fn note(line: &[u8], flags: u8) -> Option<u16>
     }
 }
 
-/// The number of notes after one more line, if it is a note and there is room.
-fn next_count(line: &[u8], flags: u8, room: usize, count: usize) -> Option<usize>
-    requires { ⌜ flags ≤ 12 ⌝ }
-    ensures { λ r. ⌜ r ≡ note-counted flags room count (now (line .entry)) ⌝ }
+/// The code of a line that is a note of numbers.
+fn number_note(line: &[u8], numbers: &Numbers) -> Option<u16>
+    ensures { λ r. ⌜ r ≡ number-note-read (numbers-of (now (numbers .entry)) .variables) (now (line .entry)) ⌝ }
 {
-    note(line, flags)?;
+    match line {
+        [b'n', rest @ ..] => read_values(numbers, rest),
+        _ => None,
+    }
+}
+
+/// The code of a note's line.
+fn note(line: &[u8], heading: Heading, flags: &Flags, numbers: &Numbers) -> Option<u16>
+    ensures { λ r. ⌜ r ≡ note-by heading (flags-of (now (flags .entry))) (numbers-of (now (numbers .entry))) (now (line .entry)) ⌝ }
+{
+    match heading {
+        Heading::Flags => flag_note(line, flags.flag_count()),
+        Heading::Numbers => number_note(line, numbers),
+    }
+}
+
+/// The number of notes after one more line, if it is a note and there is room.
+fn next_count(
+    line: &[u8],
+    heading: Heading,
+    flags: &Flags,
+    numbers: &Numbers,
+    room: usize,
+    count: usize,
+) -> Option<usize>
+    ensures { λ r. ⌜ r ≡ note-counted (note-by heading (flags-of (now (flags .entry))) (numbers-of (now (numbers .entry)))) room count (now (line .entry)) ⌝ }
+{
+    note(line, heading, flags, numbers)?;
     if count < room { Some(count + 1) } else { None }
 }
 
 /// The number of notes, which end at place `end`.
 ///
 /// Errors: the place of the first line that is no note, or is past the room.
-fn check_notes(text: &[u8], end: usize, flags: u8, room: usize) -> Result<usize, usize>
-    requires { ⌜ flags ≤ 12 ⌝ ∗ ⌜ length (now text) ≤ end ⌝ }
-    ensures { λ r. ⌜ r ≡ lines-read (note-counted flags room) (end - length (now (text .entry))) (lines-of (now (text .entry))) 0 ⌝ }
+fn check_notes(
+    text: &[u8],
+    end: usize,
+    heading: Heading,
+    flags: &Flags,
+    numbers: &Numbers,
+    room: usize,
+) -> Result<usize, usize>
+    requires { ⌜ length (now text) ≤ end ⌝ }
+    ensures { λ r. ⌜ r ≡ lines-read (note-counted (note-by heading (flags-of (now (flags .entry))) (numbers-of (now (numbers .entry)))) room) (end - length (now (text .entry))) (lines-of (now (text .entry))) 0 ⌝ }
 {
     let mut count = 0;
     let mut rest = text;
     while !rest.is_empty() {
         let line = split_line(rest);
-        let Some(next) = next_count(line.bytes, flags, room, count) else {
+        let Some(next) = next_count(line.bytes, heading, flags, numbers, room, count) else {
             return Err(end - rest.len());
         };
         count = next;
@@ -81,26 +120,24 @@ fn check_notes(text: &[u8], end: usize, flags: u8, room: usize) -> Result<usize,
 }
 
 /// The code of a line that is a note, and 0 of another.
-fn code(line: &[u8], flags: u8) -> u16
-    requires { ⌜ flags ≤ 12 ⌝ }
-    ensures { λ r. ⌜ r ≡ code-or-zero (note-read flags (now (line .entry))) ⌝ }
+fn code(line: &[u8], heading: Heading, flags: &Flags, numbers: &Numbers) -> u16
+    ensures { λ r. ⌜ r ≡ code-or-zero (note-by heading (flags-of (now (flags .entry))) (numbers-of (now (numbers .entry))) (now (line .entry))) ⌝ }
 {
-    match note(line, flags) {
+    match note(line, heading, flags, numbers) {
         Some(code) => code,
         None => 0,
     }
 }
 
 /// Writes the codes of lines into the first entries of the visit list.
-fn write_notes(text: &[u8], flags: u8, visits: &mut [u16])
-    requires { ⌜ flags ≤ 12 ⌝ }
-    ensures { λ _. ⌜ now (visits .exit) ≡ over (codes-of flags (lines-of (now (text .entry)))) (now (visits .entry)) ⌝ }
+fn write_notes(text: &[u8], heading: Heading, flags: &Flags, numbers: &Numbers, visits: &mut [u16])
+    ensures { λ _. ⌜ now (visits .exit) ≡ over (codes-of (note-by heading (flags-of (now (flags .entry))) (numbers-of (now (numbers .entry)))) (lines-of (now (text .entry)))) (now (visits .entry)) ⌝ }
 {
     let mut rest = text;
     let mut i = 0;
     while !rest.is_empty() && i < visits.len() {
         let line = split_line(rest);
-        visits[i] = code(line.bytes, flags);
+        visits[i] = code(line.bytes, heading, flags, numbers);
         i += 1;
         rest = line.rest;
     }
@@ -112,18 +149,20 @@ fn write_notes(text: &[u8], flags: u8, visits: &mut [u16])
 pub(crate) fn read_notes(
     text: &[u8],
     end: usize,
-    flags: u8,
+    heading: Heading,
+    flags: &Flags,
+    numbers: &Numbers,
     visits: &mut [u16],
 ) -> Result<usize, usize>
-    requires { ⌜ flags ≤ 12 ⌝ ∗ ⌜ length (now text) ≤ end ⌝ }
-    ensures { λ r. ⌜ noted r (now (visits .exit)) ≡ notes-read flags (end - length (now (text .entry))) (now (text .entry)) (now (visits .entry)) ⌝ }
+    requires { ⌜ length (now text) ≤ end ⌝ }
+    ensures { λ r. ⌜ noted r (now (visits .exit)) ≡ notes-read (note-by heading (flags-of (now (flags .entry))) (numbers-of (now (numbers .entry)))) (end - length (now (text .entry))) (now (text .entry)) (now (visits .entry)) ⌝ }
 {
     let room = if visits.len() < 1024 {
         visits.len()
     } else {
         1024
     };
-    let count = check_notes(text, end, flags, room)?;
-    write_notes(text, flags, visits);
+    let count = check_notes(text, end, heading, flags, numbers, room)?;
+    write_notes(text, heading, flags, numbers, visits);
     Ok(count)
 }

@@ -19,7 +19,7 @@ pub(crate) enum Stage {
     Start,
     /// After the heading.
     Headed,
-    /// After a flag.
+    /// After a flag or a variable.
     Variables,
     /// After an atom.
     Atoms,
@@ -93,7 +93,7 @@ fn atom_line(stage: Stage, flags: &mut Flags, text: &[u8]) -> Option<Stage>
 }
 
 /// Takes the heading.
-fn heading(stage: Stage) -> Option<Stage>
+pub(crate) fn heading(stage: Stage) -> Option<Stage>
     ensures { λ r. ⌜ r ≡ heading-stage stage ⌝ }
 {
     match stage {
@@ -114,8 +114,8 @@ fn declaration(stage: Stage, flags: &mut Flags, line: &[u8]) -> Option<Stage>
     }
 }
 
-/// Whether a flag was named before the lines end; else the end is the wrong place.
-fn finish(stage: Stage, end: usize) -> Result<(), usize>
+/// Whether a flag or a variable was named before the lines end; else the end is the wrong place.
+pub(crate) fn finish(stage: Stage, end: usize) -> Result<(), usize>
     ensures { λ r. ⌜ r ≡ ended-at end stage ⌝ }
 {
     match stage {

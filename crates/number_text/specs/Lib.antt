@@ -1,0 +1,4 @@
+pub mod Chains
+pub mod Variables
+pub mod Sums
+pub mod Values
