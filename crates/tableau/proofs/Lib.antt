@@ -1,0 +1,10 @@
+pub mod Steps
+pub mod Masks
+pub mod Layers
+pub mod Histories
+pub mod Tests
+pub mod Branches
+pub mod Computed
+pub mod Counting
+pub mod Searched
+pub mod Examples
