@@ -1,0 +1,4 @@
+pub mod Rows
+pub mod Trails
+pub mod Layers
+pub mod Outcomes
