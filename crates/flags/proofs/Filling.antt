@@ -1,11 +1,11 @@
 -- What filling does, by the slot of the name.
-use mathlib.Core.Bool.{Bool, true, false, cond, not, _&&_}
+use mathlib.Core.Bool.{Bool, true, false, cond, not}
 use mathlib.Core.List.{List, [], _∷_, _++_, map}
 use mathlib.Core.Logic.{⊎-elim}
-use mathlib.Core.Path.{_≡_, refl, sym, ap, ap₂, subst, _∙_}
+use mathlib.Core.Path.{_≡_, refl, sym, ap, subst, _∙_}
 use Prim.Native.Nat.{ℕ, _+_, _^_, _<_, _≤_}
 use lib.Dec.{ltb}
-use lib.ListN.{length, getD, set, take}
+use lib.ListN.{length}
 use native.Mathlib.Omega.{arith}
 use Rattle.std.proofs.shelf.Lists.{length-map, map-push}
 use Rattle.std.proofs.shelf.Tests.{cond-true, cond-false, and-from, and-parts, and-left, and-right, lt-ltb, le-ltb, ltb-true, both-ways, cases-lt}
@@ -20,7 +20,6 @@ use Rattle.intern.proofs.Indexes.{false-from}
 use Rattle.intern.proofs.Places.{length-items, place-map}
 use Rattle.intern.proofs.Slots.{slot-found, slot-added, slot-full}
 use Rattle.intern.specs.declared.cell.Cell.{Cell}
-use Rattle.intern.specs.declared.Slot.{Slot}
 use Rattle.intern.specs.declared.Slot.the-variants.{Found, Added, Full}
 use Rattle.intern.specs.Entry.{room}
 use Rattle.intern.specs.Index.{Indexed, items, place, further}
@@ -31,7 +30,7 @@ use Rattle.names.specs.declared.name.Name.{Name}
 use Rattle.names.specs.Letters.{is-name}
 use Rattle.names.specs.Texts.{text-of, named, same-text, name-turn}
 use Rattle.refusal.specs.declared.FillRefusal.{FillRefusal}
-use Rattle.refusal.specs.declared.FillRefusal.the-variants.{Variable, Atom}
+use Rattle.refusal.specs.declared.FillRefusal.the-variants.{Variable}
 use Rattle.flags.specs.Filling.{flag-number, may-add-flag, flag-answer, flag-leaves}
 use Rattle.flags.specs.Model.{FlagsModel}
 

@@ -1,7 +1,6 @@
 -- The counts of a flags theory are in range.
-use mathlib.Core.List.{List, map}
 use mathlib.Core.Path.{_≡_, _∙_}
-use Prim.Native.Nat.{ℕ, _^_, _≤_}
+use Prim.Native.Nat.{_≤_}
 use lib.ListN.{length, take}
 use lib.Pow.{pow-pos, pow-mono}
 use native.Mathlib.Omega.{arith}

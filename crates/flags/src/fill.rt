@@ -12,6 +12,9 @@ use names::Name;
 use names::NameKeyed;
 use refusal::FillRefusal;
 
+// The most atoms that a flags theory takes.
+const MOST_ATOMS: u8 = 32;
+
 impl Flags {
     // One flag, and no atom.
     fn of(name: Name) -> Flags
@@ -91,7 +94,7 @@ impl Flags {
         let Some(flag) = self.flag_number(text) else {
             return Err(FillRefusal::Atom);
         };
-        if self.used == 32 {
+        if self.used >= MOST_ATOMS {
             return Err(FillRefusal::Atom);
         }
         self.atoms[self.used as usize] = flag;

@@ -1,1 +1,5 @@
 pub mod Readings
+pub mod Parsing
+pub mod Accepting
+pub mod Same
+pub mod Standing

@@ -1,2 +1,4 @@
 pub mod Operators
 pub mod Formulas
+pub mod Grammar
+pub mod Trees

@@ -2,6 +2,8 @@
 ghost use mathlib.Core.Path.{_≡_};
 ghost use mathlib.Core.Bool.{false};
 ghost use Rattle.ltlf.specs.Contents.{draft-contents};
+ghost use Rattle.formula_text.specs.Grammar.{Reads-written, Read-is-written};
+ghost use Rattle.formula_text.specs.Trees.{Built-stands};
 ghost use Rattle.formula_text.specs.Formulas.{outcome, put-read, atom-read, formula-read};
 use super::operator::Operator;
 use super::operator::atom_node;
@@ -87,4 +89,13 @@ pub fn read_formula<'a>(draft: &mut Draft, text: &'a [u8]) -> Option<Parsed<'a>>
     ensures { λ r. ⌜ outcome r (draft-contents (now (draft .exit))) ≡ formula-read 32 false (now (text .entry)) (draft-contents (now (draft .entry))) ⌝ }
 {
     formula(draft, text, false, 32)
+}
+
+/// Reading inverts writing, what is read was written, and what was read stands in the draft with its negations pushed down.
+pub fn formula_law() -> u8
+    ensures reads { λ _. ⌜ Reads-written ⌝ }
+    ensures written { λ _. ⌜ Read-is-written ⌝ }
+    ensures stands { λ _. ⌜ Built-stands ⌝ }
+{
+    0
 }

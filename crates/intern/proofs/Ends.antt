@@ -1,9 +1,8 @@
 -- Where walks end.
-use mathlib.Core.Bool.{Bool, true, false, _&&_}
+use mathlib.Core.Bool.{Bool, true, false}
 use mathlib.Core.List.{List}
 use mathlib.Core.Path.{_≡_, refl, sym, ap, subst, _∙_}
 use Prim.Native.Nat.{ℕ, zero, suc, _+_, _<_, _≤_}
-use lib.Dec.{leb, ltb}
 use lib.ListN.{length, getD}
 use native.Mathlib.Omega.{arith}
 use Rattle.std.proofs.shelf.Lists.{getD-default}
@@ -14,8 +13,8 @@ use Rattle.intern.specs.declared.cell.Cell.{Cell}
 use Rattle.intern.specs.declared.descent.End.{End}
 use Rattle.intern.specs.declared.descent.End.the-variants.{Here, Gap, Broken}
 use Rattle.intern.specs.Links.{leaf, child-of}
-use Rattle.intern.specs.Walk.{walk, reached, lookup, found-at}
-use Rattle.intern.proofs.Walks.{Step, at-item, at-gap, along, astray, step, walk-here, walk-gap, walk-next, walk-off}
+use Rattle.intern.specs.Walk.{walk, reached}
+use Rattle.intern.proofs.Walks.{at-item, at-gap, along, astray, step, walk-here, walk-gap, walk-next, walk-off}
 
 pub here-gap : (e : End) (k a : ℕ) (s : Bool) → e ≡ Here k → e ≡ Gap a s → ⊥
 here-gap e k a s p q = let z : _≡_ {A = ℕ} 0 1 = cc in omega arith

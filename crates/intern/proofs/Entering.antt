@@ -1,14 +1,13 @@
 -- A record put into a new cell, as the code puts it.
 use mathlib.Core.Bool.{Bool}
 use mathlib.Core.List.{List}
-use mathlib.Core.Path.{_≡_, refl, sym, ap, ap₂, _∙_}
-use Prim.Native.Nat.{ℕ, _^_, _<_, _≤_}
+use mathlib.Core.Path.{_≡_, sym, ap, ap₂, _∙_}
+use Prim.Native.Nat.{ℕ, _^_, _<_}
 use lib.ListN.{length, getD, set}
 use native.Mathlib.Omega.{arith}
 use Rattle.std.proofs.shelf.Lists.{getD-read}
 use Rattle.std.proofs.shelf.Tests.{and-from, lt-ltb, cond-true}
 use Rattle.intern.specs.declared.cell.Cell.{Cell}
-use Rattle.intern.specs.declared.Slot.{Slot}
 use Rattle.intern.specs.declared.Slot.the-variants.{Added}
 use Rattle.intern.specs.Entry.{new-slot, with-hung}
 use Rattle.intern.specs.Links.{leaf, linked}

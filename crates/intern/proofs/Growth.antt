@@ -9,11 +9,9 @@ use native.Mathlib.Numerals.{add-one}
 use native.Mathlib.Omega.{arith}
 use Rattle.std.proofs.shelf.Lists.{length-set, getD-set-same, getD-set-other, getD-default}
 use Rattle.std.proofs.shelf.Tests.{cases-eq}
-use Rattle.std.specs.declared.option.Option.{Option}
 use Rattle.std.specs.declared.option.Option.the-variants.{Some, None}
 use Rattle.intern.specs.declared.cell.Cell.{Cell}
-use Rattle.intern.specs.declared.descent.End.{End}
-use Rattle.intern.specs.declared.descent.End.the-variants.{Here, Gap, Broken}
+use Rattle.intern.specs.declared.descent.End.the-variants.{Here, Gap}
 use Rattle.intern.specs.Entry.{hung}
 use Rattle.intern.specs.Index.{Indexed}
 use Rattle.intern.specs.Links.{leaf, child-of, linked}
@@ -21,7 +19,7 @@ use Rattle.intern.specs.Walk.{walk, found-at, lookup}
 use Rattle.intern.proofs.Ends.{here-gap, here-broken, gap-broken, same-gap, gap-found, reached-is}
 use Rattle.intern.proofs.Index.{Index, from-index}
 use Rattle.intern.proofs.Indexes.{some-none, found-here, started}
-use Rattle.intern.proofs.Walks.{Step, at-item, at-gap, along, astray, step, walk-here, walk-next}
+use Rattle.intern.proofs.Walks.{at-item, at-gap, along, astray, step, walk-here, walk-next}
 
 child-linked : {R : Type 0} (h : Cell R) (s u : Bool) (n a : ℕ) → child-of (linked h s n) u ≡ Some a → (a ≡ n) ⊎ (child-of h u ≡ Some a)
 child-linked h true true n a e = inl (cc)

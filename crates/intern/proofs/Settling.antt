@@ -1,5 +1,5 @@
 -- What finding a record or adding it does to indexed cells.
-use mathlib.Core.Bool.{Bool, true, false, cond}
+use mathlib.Core.Bool.{Bool, true, false}
 use mathlib.Core.List.{List, [], _∷_, _++_, map}
 use mathlib.Core.Logic.{_≢_}
 use mathlib.Core.Path.{_≡_, refl, sym, ap, subst, _∙_}
@@ -18,9 +18,9 @@ use Rattle.intern.specs.declared.Slot.{Slot}
 use Rattle.intern.specs.declared.Slot.the-variants.{Found, Added, Full, Broken}
 use Rattle.intern.specs.Entry.{room, new-slot, hung, with-first, with-hung, slot-at, cells-at, slot-answer, cells-after}
 use Rattle.intern.specs.Links.{leaf, linked}
-use Rattle.intern.specs.Walk.{walk, reached, found-at, lookup}
+use Rattle.intern.specs.Walk.{walk, reached, found-at}
 use Rattle.intern.specs.Index.{items, place, Indexed}
-use Rattle.intern.specs.Settled.{slot-of, count-after, items-after, Settled}
+use Rattle.intern.specs.Settled.{slot-of, Settled}
 use Rattle.intern.proofs.Ends.{gap-found, reached-is}
 use Rattle.intern.proofs.Growth.{linked-item, indexed-hung, indexed-first}
 use Rattle.intern.proofs.Index.{Index, to-index, from-index}
@@ -77,6 +77,7 @@ module _ {R : Type 0} (alike : R → R → Bool) (turns : R → ℕ → Bool)
         items-are = refl;
         indexed = indexed-cells;
         same-length = refl;
+        kept = refl;
         rest-kept = refl;
       }
 
@@ -87,6 +88,7 @@ module _ {R : Type 0} (alike : R → R → Bool) (turns : R → ℕ → Bool)
         items-are = refl;
         indexed = indexed-cells;
         same-length = refl;
+        kept = refl;
         rest-kept = refl;
       }
 
@@ -98,6 +100,7 @@ module _ {R : Type 0} (alike : R → R → Bool) (turns : R → ℕ → Bool)
         items-are = is;
         indexed = idx;
         same-length = len;
+        kept = tt;
         rest-kept = rest;
       }
 

@@ -31,6 +31,13 @@ items-after (Added k) r xs = xs ++ r ∷ []
 items-after Full r xs = xs
 items-after Broken r xs = xs
 
+-- the cells are unchanged but for an added record
+abbrev pub Kept : {R : Type 0} → Slot → (cells after : List (Cell R)) → Type 0
+Kept (Found k) cells after = after ≡ cells
+Kept (Added k) cells after = Unit {0}
+Kept Full cells after = after ≡ cells
+Kept Broken cells after = after ≡ cells
+
 -- Indexed cells stay indexed; the record's slot is the place of the first item that equals it, or a new one;
 -- the items are as before but for a record added at the end, and so are the cells past the filled ones.
 pub record Settled {R : Type 0} (alike : R → R → Bool) (turns : R → ℕ → Bool) (cells : List (Cell R)) (n : ℕ) (r : R) (s : Slot) (after : List (Cell R)) : Type 0 where
@@ -38,4 +45,5 @@ pub record Settled {R : Type 0} (alike : R → R → Bool) (turns : R → ℕ �
   pub items-are : items after (count-after s n) ≡ items-after s r (items cells n)
   pub indexed : Indexed alike turns after (count-after s n)
   pub same-length : length after ≡ length cells
+  pub kept : Kept s cells after
   pub rest-kept : drop (count-after s n) after ≡ drop (count-after s n) cells

@@ -11,18 +11,16 @@ use Rattle.std.proofs.shelf.Lists.{take-rest, take-all, drop-all, length-drop, 
 use Rattle.std.proofs.shelf.Tests.{cond-true, cond-false, cases-bool, cases-lt}
 use Rattle.items.specs.Lines.{line-length, lines-of, onto}
 
-module _ (text : List ℕ) (n : ℕ) (is : n ≡ line-length text) where
-  pub bytes-cut : take (n - 0) text ≡ take (line-length text) text
-  bytes-cut = let e : n - 0 ≡ line-length text = omega arith in ap (λ k. take k text) e
+-- a slice up to n, and slices from a place on
+pub front-cut : (text : List ℕ) (n : ℕ) → take (n - 0) text ≡ take n text
+front-cut text n = let e : n - 0 ≡ n = omega arith in ap (λ k. take k text) e
 
-  pub rest-cut : take (length text - (n + 1)) (drop (n + 1) text) ≡ drop (line-length text + 1) text
-  rest-cut = take-rest text (n + 1) ∙ ap (λ k. drop (k + 1) text) is
+module _ (text : List ℕ) (n : ℕ) (past : length text ≤ n) where
+  pub front-all : text ≡ take n text
+  front-all = sym (take-all n text past)
 
-  pub bytes-all : length text ≤ n → text ≡ take (line-length text) text
-  bytes-all past = sym (take-all (line-length text) text (omega arith))
-
-  pub rest-all : length text ≤ n → take (length text - length text) (drop (length text) text) ≡ drop (line-length text + 1) text
-  rest-all past = take-rest text (length text) ∙ drop-all (length text) text (omega arith) ∙ sym (drop-all (line-length text + 1) text (omega arith))
+  pub rest-all : take (length text - length text) (drop (length text) text) ≡ drop (n + 1) text
+  rest-all = take-rest text (length text) ∙ drop-all (length text) text (omega arith) ∙ sym (drop-all (n + 1) text (omega arith))
 
 -- a first byte that ends no line stands before the first line of the rest
 onto-cut : (b : ℕ) (bs : List ℕ) → (0 < length bs → lines-of bs ≡ take (line-length bs) bs ∷ lines-of (drop (line-length bs + 1) bs)) → onto b (lines-of bs) ≡ (b ∷ take (line-length bs) bs) ∷ lines-of (drop (line-length bs + 1) bs)

@@ -96,14 +96,3 @@ read-names bs name rest e =
 
 pub name-law : Name-law
 name-law bs name rest = (read-names bs name rest, names-read bs name rest)
-
-module _ (text : List ℕ) (n : ℕ) (is : n ≡ letters-in text) where
-  pub no-name : (n < 1) ⊎ (8 < n) → None ≡ name-read text
-  no-name out =
-      let untrue : (leb 1 (letters-in text) && leb (letters-in text) 8) ≡ false = ⊎-elim (λ h. and-left _ _ (lt-leb 1 (letters-in text) (omega arith))) (λ h. and-right (leb 1 (letters-in text)) _ (lt-leb (letters-in text) 8 (omega arith))) out in
-      sym (cond-false (leb 1 (letters-in text) && leb (letters-in text) 8) _ None untrue)
-
-  pub some-name : 1 ≤ n → n ≤ 8 → Some (take (n - 0) text, take (length text - n) (drop n text)) ≡ name-read text
-  some-name low high =
-      let same : n - 0 ≡ n = omega arith in
-      (λ i. Some (take (same i) text, take-rest text n i)) ∙ sym (cond-true _ _ _ (and-from _ _ (le-leb 1 n low) (le-leb n 8 high))) ∙ ap (λ n. named n text) is

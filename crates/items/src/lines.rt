@@ -2,7 +2,7 @@
 ghost use mathlib.Core.Path.{_≡_};
 ghost use mathlib.Core.List.{[], _∷_};
 ghost use Prim.Native.Nat.{ℕ, _+_, _-_, _<_, _≤_};
-ghost use lib.ListN.{length};
+ghost use lib.ListN.{length, take, drop};
 ghost use Rattle.items.specs.Lines.{line-length, Cut, last-start, text-seen, behind};
 
 /// A line without its end, and what follows its end.
@@ -24,11 +24,11 @@ fn line_size(text: &[u8]) -> usize
     text.len()
 }
 
-/// The first line of a text.
-pub fn split_line(text: &[u8]) -> Line
-    ensures { λ r. ⌜ Cut (now (text .entry)) r ⌝ }
+/// A text cut at byte `n`, which belongs to neither part.
+fn cut_at(text: &[u8], n: usize) -> Line
+    ensures bytes { λ r. ⌜ r .bytes .now ≡ take n (now (text .entry)) ⌝ }
+    ensures rest { λ r. ⌜ r .rest .now ≡ drop (n + 1) (now (text .entry)) ⌝ }
 {
-    let n = line_size(text);
     if n < text.len() {
         Line {
             bytes: &text[0..n],
@@ -40,6 +40,13 @@ pub fn split_line(text: &[u8]) -> Line
             rest: &text[text.len()..],
         }
     }
+}
+
+/// The first line of a text.
+pub fn split_line(text: &[u8]) -> Line
+    ensures { λ r. ⌜ Cut (now (text .entry)) r ⌝ }
+{
+    cut_at(text, line_size(text))
 }
 
 /// The place of the last line of a text that is not empty.

@@ -1,7 +1,7 @@
 // Names of 1 to 8 small letters.
 ghost use mathlib.Core.Path.{_≡_};
 ghost use Prim.Native.Nat.{ℕ, _+_, _-_, _<_, _≤_};
-ghost use lib.ListN.{length};
+ghost use lib.ListN.{length, take, drop};
 ghost use Rattle.items.specs.Names.{letters-in, name-read, name-seen, Name-law};
 
 /// A name that was read, and what follows it.
@@ -24,18 +24,28 @@ fn lower_letters(text: &[u8]) -> usize
     text.len()
 }
 
+/// A text cut before byte `n`.
+fn cut_before(text: &[u8], n: usize) -> Name
+    requires { ⌜ n ≤ length (now text) ⌝ }
+    ensures letters { λ r. ⌜ r .letters .now ≡ take n (now (text .entry)) ⌝ }
+    ensures rest { λ r. ⌜ r .rest .now ≡ drop n (now (text .entry)) ⌝ }
+{
+    Name {
+        letters: &text[0..n],
+        rest: &text[n..],
+    }
+}
+
 /// The name in front, of 1 to 8 small letters.
 pub fn read_name(text: &[u8]) -> Option<Name>
     ensures { λ r. ⌜ name-seen r ≡ name-read (now (text .entry)) ⌝ }
 {
     let n = lower_letters(text);
-    if n < 1 || n > 8 {
-        return None;
+    if 1 <= n && n <= 8 {
+        Some(cut_before(text, n))
+    } else {
+        None
     }
-    Some(Name {
-        letters: &text[0..n],
-        rest: &text[n..],
-    })
 }
 
 /// A name is read exactly where one is written.

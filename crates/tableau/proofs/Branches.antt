@@ -1,7 +1,7 @@
 -- The branches of a label are the next labels of its sound choices.
-use mathlib.Core.Path.{_≡_, refl, sym, _∙_, ap, subst, subst⁻¹}
-use mathlib.Core.Bool.{Bool, true, false, cond, not}
-use mathlib.Core.List.{List, [], _∷_}
+use mathlib.Core.Path.{_≡_, refl, sym, _∙_, subst, subst⁻¹}
+use mathlib.Core.Bool.{true, false, cond}
+use mathlib.Core.List.{List, []}
 use mathlib.Core.Logic.{_⊎_, inl, inr, _↔_}
 use Prim.Native.Nat.{ℕ, zero, suc, _≤_, _<_}
 use native.Mathlib.Nat.{eq-or-lt-of-le}
@@ -16,8 +16,8 @@ use Rattle.ltlf.specs.declared.node.Node.{Node}
 use Rattle.ltlf.specs.declared.node.Node.the-variants.{True, False, Atom, NotAtom, And, Or, Tomorrow, WeakTomorrow, Until, Release}
 use Rattle.judge.specs.Formulas.{node-at, Among}
 use Rattle.tableau.specs.Labels.{Label, _∈_, has, adding}
-use Rattle.tableau.specs.Expansion.{Choice, Side, one, other, parts, handed-on, Expansion, Goes-on, Admitted, Sound, Handed-on, Next-label}
-use Rattle.tableau.specs.Masks.{expanded-below, expanded, next-of}
+use Rattle.tableau.specs.Expansion.{Choice, Side, one, other, parts, handed-on, Goes-on, Admitted, Sound, Next-label}
+use Rattle.tableau.specs.Masks.{expanded-below, next-of}
 use Rattle.tableau.specs.Positions.{In}
 use Rattle.tableau.specs.Search.{goes-on, admitted, sides, gather, branches, next-labels}
 use Rattle.tableau.specs.Theorems.{Next-labels-are-computed}
@@ -26,7 +26,6 @@ use Rattle.tableau.proofs.Masks.{has?, adding-has, zero-has, same-members, exp
 use Rattle.tableau.proofs.Tests.{no-way, true-or-not, not-ok, gather-ok, when-ok}
 
 goes-on-ok : (n : Next) → (goes-on n ≡ true) ↔ Goes-on n
-unfolding goes-on
 goes-on-ok (Code c) = ((λ e. tt), (λ e. refl))
 goes-on-ok Last = ((λ e. no-way e), (λ e. absurd e))
 
@@ -34,7 +33,6 @@ fine : (true ≡ true) ↔ Unit {0}
 fine = ((λ e. tt), (λ e. refl))
 
 pub admitted-ok : (t : Meaning) (c : ℕ) (n : Next) (m : Node) (s : Side) → (admitted t c n m s ≡ true) ↔ Admitted t c n m s
-unfolding admitted
 admitted-ok t c n True s = fine
 admitted-ok t c n False s = ((λ e. no-way e), (λ e. absurd e))
 admitted-ok t c n (Atom a) s = ((λ e. e), (λ e. e))
@@ -53,7 +51,6 @@ Does t c n k m s s′ =
     (parts m s ≡ parts m s′) × (handed-on k m s ≡ handed-on k m s′) × (admitted t c n m s ≡ admitted t c n m s′)
 
 a-side : (t : Meaning) (c : ℕ) (n : Next) (k : ℕ) (m : Node) (s : Side) → (s′ : Side) × In s′ (sides m) × Does t c n k m s s′
-unfolding sides admitted
 a-side t c n k True s = (one, inl refl, (refl, refl, refl))
 a-side t c n k False s = (one, inl refl, (refl, refl, refl))
 a-side t c n k (Atom a) s = (one, inl refl, (refl, refl, refl))
@@ -107,7 +104,6 @@ module _ (t : Meaning) (b : Contents) (c : ℕ) (n : Next) where
       (subst⁻¹ (λ (s : Side). Along κ′ k (adding (parts (node-at b k) s) S) (adding (handed-on k (node-at b k) s) N) L) z r)
 
   branches-along : (k : ℕ) (S N L : Label) → In L (branches t b c n k S N) → (κ : Choice) × Along κ k S N L
-  unfolding branches
   branches-along zero S N L (inl e) = ((λ f. one), subst⁻¹ (λ (x : Label). Along (λ f. one) 0 S N x) e done)
   branches-along zero S N L (inr z) = absurd z
   branches-along (suc k) S N L h = elim (true-or-not (has S k)) [
@@ -141,7 +137,6 @@ module _ (t : Meaning) (b : Contents) (c : ℕ) (n : Next) where
           )
 
   along-branches : (κ : Choice) (k : ℕ) (S N L : Label) → Along κ k S N L → In L (branches t b c n k S N)
-  unfolding branches
   along-branches κ zero S N L done = inl refl
   along-branches κ (suc k) S N L (skip e a) = rw e (along-branches κ k S N L a)
   along-branches κ (suc k) S N L (meet e w a) = rw e (there (along-branches κ k _ _ L a))
@@ -169,7 +164,6 @@ module _ (t : Meaning) (b : Contents) (c : ℕ) (n : Next) where
 module _ (b : Contents) (pr : Proper b) (κ : Choice) where
   -- the members from k on are there before the members below k are expanded
   above : (k : ℕ) (S : Label) (f : ℕ) → k ≤ f → (f ∈ expanded-below b κ k S) ↔ (f ∈ S)
-  unfolding expanded-below
   above zero S f h = ((λ m. m), (λ m. m))
   above (suc k) S f h = elim (true-or-not (has S k)) [
     | inl e ↦ rw e (let ih = above k (adding ps S) f (omega arith) in ((λ m. old (ih .0 m)), (λ m. ih .1 (adding-has f ps S .1 (inr m)))))
@@ -194,7 +188,6 @@ module _ (t : Meaning) (b : Contents) (pr : Proper b) (c : ℕ) (n : Next) (κ :
   All-admitted k X = (f : ℕ) → f < k → f ∈ X → Admitted t c n (node-at b f) (κ f)
 
   along-admits : (k : ℕ) (S N L : Label) → Along t b c n κ k S N L → All-admitted k (expanded-below b κ k S)
-  unfolding expanded-below
   along-admits zero S N L done = λ f h m. absurd (omega arith)
   along-admits (suc k) S N L (skip e a) = rw e (λ f h m. elim (eq-or-lt-of-le h) [
     | inl z ↦ (let z′ : f ≡ k = omega arith in
@@ -213,7 +206,6 @@ module _ (t : Meaning) (b : Contents) (pr : Proper b) (c : ℕ) (n : Next) (κ :
 
   along-hands : (k : ℕ) (S N L : Label) → Along t b c n κ k S N L
       → (g : ℕ) → (g ∈ L) ↔ ((g ∈ N) ⊎ From b κ (expanded-below b κ k S) k g)
-  unfolding expanded-below
   along-hands zero S N L done g = ((λ m. inl m), elim [ inl m ↦ m | inr p ↦ absurd (omega (arith, p .1)) ])
   along-hands (suc k) S N L (skip e a) g = rw e (there (along-hands k S N L a g))
     where
@@ -271,7 +263,6 @@ module _ (t : Meaning) (b : Contents) (pr : Proper b) (c : ℕ) (n : Next) (κ :
       )
 
   admits-along : (k : ℕ) (S N : Label) → All-admitted k (expanded-below b κ k S) → (L : Label) × Along t b c n κ k S N L
-  unfolding expanded-below
   admits-along zero S N h = (N, done)
   admits-along (suc k) S N h = go (true-or-not (has S k)) h (admits-along k)
     where
@@ -299,14 +290,12 @@ module _ (t : Meaning) (b : Contents) (pr : Proper b) (L : Label) (c : ℕ) (n :
   past-admitted f s h = subst⁻¹ (λ (m : Node). Admitted t c n m s) (past-node (b .nodes) f h) tt
 
   whole-sound : (κ : Choice) (L′ : Label) → Along t b c n κ (length (b .nodes)) L 0 L′ → Sound t b κ L c n
-  unfolding expanded
   whole-sound κ L′ a f x = elim (decLt f (length (b .nodes))) [
     | yes l ↦ along-admits t b pr c n κ (length (b .nodes)) L 0 L′ a f l (expansion-computed b pr κ L f .1 x)
     | no l ↦ past-admitted f (κ f) (omega arith)
   ]
 
   whole-next : (κ : Choice) (L′ : Label) → Along t b c n κ (length (b .nodes)) L 0 L′ → Next-label b κ L L′
-  unfolding expanded
   whole-next κ L′ a g =
       let h = along-hands t b pr c n κ (length (b .nodes)) L 0 L′ a g in (
         (λ m. elim (h .0 m) [
@@ -317,7 +306,6 @@ module _ (t : Meaning) (b : Contents) (pr : Proper b) (L : Label) (c : ℕ) (n :
       )
 
   pub next-labels-ok : (L′ : Label) → In L′ (next-labels t b L c n) ↔ ((κ : Choice) × Sound t b κ L c n × Next-label b κ L L′)
-  unfolding next-labels expanded
   next-labels-ok L′ = (
     (λ i.
         let r = branches-along t b c n (length (b .nodes)) L 0 L′ i in

@@ -2,7 +2,7 @@
 use mathlib.Core.Path.{_≡_, refl, sym, _∙_, ap, subst, subst⁻¹}
 use mathlib.Core.Bool.{Bool, true, false, cond, _&&_}
 use mathlib.Core.List.{List, [], _∷_}
-use mathlib.Core.Logic.{_⊎_, inl, inr, _↔_}
+use mathlib.Core.Logic.{inl, inr, _↔_}
 use Prim.Native.Nat.{ℕ, zero, suc, min}
 use native.Mathlib.Decide.{map-dec}
 use lib.Dec.{eqb}
@@ -19,7 +19,6 @@ use Rattle.tableau.proofs.Branches.{next-labels-ok, sound-choice-ok}
 use Rattle.tableau.proofs.Tests.{no-way, true-or-not, and-ok, eqb-ok, in-below, any-ok, gather-ok, some-ok}
 
 visits-ok : (codes : ℕ) (kept : List ℕ) (p c : ℕ) → In c (visits-at codes kept p) ↔ Visited codes kept p c
-unfolding visits-at
 visits-ok codes [] p c = in-below c codes
 visits-ok codes (v ∷ kept) zero c = (elim [ inl e ↦ e | inr z ↦ absurd z ], (λ e. inl e))
 visits-ok codes (v ∷ kept) (suc p) c = visits-ok codes kept p c
@@ -29,7 +28,6 @@ same-position s e p l c = λ i. record { place = p i; label = l i; code = c i }
 
 module _ (q : Question) (posed : Well-posed q) where
   pub ends-ok : (s : Position) → (ends q s ≡ true) ↔ Ends q s
-  unfolding ends
   ends-ok s =
       let ls = next-labels (q .meaning) (q .book) (s .label) (s .code) Last in
       let a = and-ok (eqb (s .place) (last-place q)) (some ls) in
@@ -44,7 +42,6 @@ module _ (q : Question) (posed : Well-posed q) where
       )
 
   pub steps-ok : (s e : Position) → In e (steps q s) ↔ Step q s e
-  unfolding steps
   steps-ok s e =
       let vs = visits-at (q .meaning .codes) (q .kept) (suc (s .place)) in
       let labels : ℕ → List Label = λ c. next-labels (q .meaning) (q .book) (s .label) (s .code) (Code c) in
@@ -76,7 +73,6 @@ module _ (q : Question) (posed : Well-posed q) where
       )
 
   pub starts-ok : (s : Position) → In s (starts q) ↔ Starts q s
-  unfolding starts
   starts-ok s =
       let made : ℕ → List Position = λ c. record { place = 0; label = adding (q .book .rules) 0; code = c } ∷ [] in
       let rules : (f : ℕ) → (f ∈ adding (q .book .rules) 0) ↔ Among f (q .book .rules) =
@@ -100,7 +96,6 @@ module _ (q : Question) (posed : Well-posed q) where
 -- FRESH POSITIONS
 
 alike-ok : (s e : Position) → (alike s e ≡ true) ↔ (s ≡ e)
-unfolding alike
 alike-ok s e =
     let a = and-ok (eqb (s .place) (e .place)) (eqb (s .label) (e .label) && eqb (s .code) (e .code)) in
     let b = and-ok (eqb (s .label) (e .label)) (eqb (s .code) (e .code)) in (
@@ -126,7 +121,6 @@ in? s seen = elim (true-or-not (any (alike s) seen)) [
 ]
 
 pub fresh-ok : (seen ss : List Position) (e : Position) → In e (fresh seen ss) ↔ (In e ss × (¬ In e seen))
-unfolding fresh
 fresh-ok seen [] e = ((λ h. absurd h), (λ p. absurd (p .0)))
 fresh-ok seen (s ∷ ss) e = go (any (alike s) seen) refl (fresh-ok seen ss e) (fresh-ok (s ∷ seen) ss e)
   where
@@ -153,7 +147,6 @@ fresh-ok seen (s ∷ ss) e = go (any (alike s) seen) refl (fresh-ok seen ss e) (
     )
 
 pub fresh-distinct : (seen ss : List Position) → Distinct (fresh seen ss)
-unfolding fresh
 fresh-distinct seen [] = tt
 fresh-distinct seen (s ∷ ss) = go (any (alike s) seen) (fresh-distinct seen ss) (fresh-distinct (s ∷ seen) ss)
   where

@@ -1,11 +1,13 @@
 -- A list without repetition is no longer than one that holds its elements.
-use mathlib.Core.Path.{_≡_, refl, sym, _∙_, ap, subst}
+use mathlib.Core.Path.{_≡_, refl, sym, _∙_, ap, ap₂, subst}
 use mathlib.Core.List.{List, [], _∷_, _++_}
 use mathlib.Core.Logic.{_⊎_, inl, inr}
-use Prim.Native.Nat.{ℕ, suc, _≤_}
+use Prim.Native.Nat.{ℕ, zero, suc, _+_, _*_, _≤_}
+use native.Mathlib.Nat.{zero-mul, suc-mul, add-comm}
 use native.Mathlib.Omega.{arith}
-use lib.ListN.{length}
+use lib.ListN.{length, length-append}
 use Rattle.tableau.specs.Positions.{Question, Position, Rows, In, Distinct}
+use Rattle.tableau.specs.Search.{gather, below}
 use Rattle.tableau.proofs.Tests.{in-append}
 
 without : {X : Type 0} (x : X) (ys : List X) → In x ys
@@ -42,3 +44,15 @@ same-count q ps ps′ r r′ =
     let a = no-longer ps ps′ (r .apart) (λ e i. r′ .all e .1 (r .all e .0 i)) in
     let b = no-longer ps′ ps (r′ .apart) (λ e i. r .all e .1 (r′ .all e .0 i)) in
     omega arith
+
+-- LENGTHS
+
+pub length-below : (n : ℕ) → length (below n) ≡ n
+length-below zero = refl
+length-below (suc n) = omega (arith, length-append (below n) (n ∷ []), length-below n)
+
+pub length-gather : {X Y : Type 0} (p : X → List Y) (k : ℕ) → ((x : X) → length (p x) ≡ k) → (xs : List X)
+    → length (gather p xs) ≡ length xs * k
+length-gather p k each [] = sym (zero-mul k)
+length-gather p k each (x ∷ xs) =
+    length-append (p x) (gather p xs) ∙ ap₂ (λ m n. m + n) (each x) (length-gather p k each xs) ∙ add-comm k (length xs * k) ∙ sym (suc-mul (length xs) k)

@@ -1,22 +1,20 @@
 -- The examples are well posed, and their answers are computed.
-use mathlib.Core.Path.{_≡_, refl, sym, _∙_, ap, subst, subst⁻¹}
-use mathlib.Core.Bool.{Bool, true, false, not, _&&_}
+use mathlib.Core.Path.{_≡_, refl, sym, _∙_, subst⁻¹}
+use mathlib.Core.Bool.{Bool, true, not, _&&_}
 use mathlib.Core.List.{List, [], _∷_}
-use Prim.Native.Nat.{ℕ, zero, suc, _+_, _≤_, _<_}
+use Prim.Native.Nat.{ℕ, zero, suc, _+_, _<_}
 use native.Mathlib.Omega.{arith}
 use lib.Dec.{ltb, leb, eqb}
 use lib.ListN.{length, getD}
 use borrow.Author.Tests.{eq-eqb}
 use Rattle.std.proofs.shelf.Tests.{ltb-true, leb-true, and-parts}
 use Rattle.ltlf.specs.Nodes.{known}
-use Rattle.ltlf.specs.Contents.{Contents, Proper}
 use Rattle.ltlf.specs.declared.node.Node.{Node}
 use Rattle.ltlf.specs.declared.node.Node.the-variants.{True}
-use Rattle.judge.specs.Histories.{visit}
 use Rattle.tableau.specs.Positions.{Question}
-use Rattle.tableau.specs.Continuations.{All-codes, Well-posed}
+use Rattle.tableau.specs.Continuations.{Well-posed}
 use Rattle.tableau.specs.Search.{Answer, answer}
-use Rattle.tableau.specs.Examples.{tried, Each-answered, Examples-answered}
+use Rattle.tableau.specs.Examples.{tried, boundaries, Each-answered, Examples-answered, Boundaries-answered}
 use Rattle.tableau.proofs.Tests.{no-way, not-ok}
 
 abbrev all-less : ℕ → List ℕ → Bool
@@ -97,7 +95,6 @@ each [] r = tt
 each (p ∷ ps) r = ((posed-ok (p .0) (r .0 .0), r .0 .1), each ps (r .1))
 
 all-computed : Computed tried
-unfolding answer
 all-computed = (
   (refl, refl),
   (
@@ -123,3 +120,8 @@ all-computed = (
 
 pub examples-answered : Examples-answered
 examples-answered = each tried all-computed
+
+pub boundaries-answered : Boundaries-answered
+boundaries-answered =
+    each boundaries
+    ((refl, refl), ((refl, refl), ((refl, refl), ((refl, refl), ((refl, refl), ((refl, refl), ((refl, refl), tt)))))))

@@ -1,26 +1,20 @@
 -- The paths of the positions are the histories.
 use mathlib.Core.Path.{_≡_, refl, sym, _∙_, ap, subst, subst⁻¹, subst₂}
 use mathlib.Core.List.{List, [], _∷_, _++_}
-use mathlib.Core.Logic.{_⊎_, inl, inr, _↔_}
-use Prim.Native.Nat.{ℕ, zero, suc, pred, min, _+_, _-_, _^_, _≤_, _<_}
+use Prim.Native.Nat.{ℕ, zero, suc, pred, min, _+_, _^_, _≤_, _<_}
 use native.Mathlib.Decide.{decLt, decLe}
 use native.Mathlib.Nat.{le-of-suc-le-suc}
 use native.Mathlib.Omega.{arith}
-use lib.ListN.{length, getD, drop, length-append}
+use lib.ListN.{length, drop, length-append}
 use lib.Seq.{drop-cons}
-use Rattle.theory.specs.Meaning.{Meaning}
-use Rattle.theory.specs.declared.next.Next.{Next}
 use Rattle.theory.specs.declared.next.Next.the-variants.{Code, Last}
-use Rattle.ltlf.specs.Contents.{Contents, Proper}
-use Rattle.judge.specs.Formulas.{formula, Among}
 use Rattle.judge.specs.Histories.{visit, after, first}
-use Rattle.judge.specs.Holding.{Holds, Meets}
-use Rattle.tableau.specs.Labels.{Label, _∈_}
-use Rattle.tableau.specs.Expansion.{Choice, Goes-on, Sound, Handed-on}
-use Rattle.tableau.specs.Positions.{Position, Question, Starts, Step, Ends, Path, stay, go, codes-on, Reached, Distance, Least-end, Visited, last-place}
-use Rattle.tableau.specs.Continuations.{All-codes, Begins, Continuation, Possible, Shortest, Impossible, Well-posed, Leads}
+use Rattle.tableau.specs.Labels.{_∈_}
+use Rattle.tableau.specs.Expansion.{Goes-on, Sound}
+use Rattle.tableau.specs.Positions.{Position, Question, Starts, Step, Ends, Path, stay, go, codes-on, Reached, Least-end, Visited, last-place}
+use Rattle.tableau.specs.Continuations.{All-codes, Begins, Continuation, Possible, Well-posed, Leads}
 use Rattle.tableau.specs.Masks.{next-of}
-use Rattle.tableau.specs.Theorems.{All-hold, Paths-are-histories, Lengths-are-reached, Shortest-is-least, None-is-none, Reached-is-bounded}
+use Rattle.tableau.specs.Theorems.{All-hold, Paths-are-histories, Chains-are-histories, Lengths-are-reached, Shortest-is-least, None-is-none, Reached-is-bounded}
 use Rattle.tableau.proofs.Steps.{step-sound, step-complete, inside-code}
 use Rattle.tableau.proofs.Masks.{next-ok, rules-label, small, handed-inside, rule-inside}
 
@@ -126,7 +120,7 @@ start-begins : (m : ℕ) (k : List ℕ) (c p : ℕ) (τ : List ℕ) → p ≡ 0 
 start-begins m [] c p τ e h b = (τ, refl)
 start-begins m (v ∷ k) c p τ e h b = (b .0, b .1 ∙ rw (e, h))
 
-leads-continuation : (q : Question) → Well-posed q → (σ : List ℕ) → Leads q σ → Continuation q σ
+pub leads-continuation : (q : Question) → Well-posed q → (σ : List ℕ) → Leads q σ → Continuation q σ
 leads-continuation q posed σ l =
     let long : length σ ≡ suc (l .steps) = ap length (sym (l .codes-are)) ∙ codes-length q (l .path) in
     record {
@@ -217,6 +211,37 @@ paths-are-histories q posed σ = (there, leads-continuation q posed σ)
         let h = a .nonempty in
         let r = continuation-leads q posed (pred (length σ)) σ (omega arith) a in
         record { steps = pred (length σ); from = r .0; to = r .1; path = r .2; starts = r .3; ends = r .4; codes-are = r .5 }
+
+-- FROM A SEQUENCE OF POSITIONS TO A HISTORY
+
+module _ (q : Question) (n : ℕ) (at : ℕ → Position) (σ : List ℕ) (long : length σ ≡ suc n)
+    (shows : (i : ℕ) → i ≤ n → visit σ i ≡ at i .code) (step : (i : ℕ) → i < n → Step q (at i) (at (suc i))) where
+  walk : (k i : ℕ) → i + k ≡ n → (e : Position) × (w : Path q k (at i) e) × (e ≡ at n) × (codes-on w ≡ drop i σ)
+  walk zero i z =
+      let h : i < length σ = omega arith in
+      let last : i ≡ n = omega arith in
+      let none : drop (suc i) σ ≡ [] = drop-none σ (suc i) (omega arith) in
+      let v = sym (shows i (omega arith)) in
+      (at i, stay, ap at last, rw (drop-cons σ i 0 h, none, v))
+  walk (suc k) i z =
+      let h : i < length σ = omega arith in
+      let v = sym (shows i (omega arith)) in
+      let r = walk k (suc i) (omega arith) in
+      let e = r .3 in
+      (r .0, go (step i (omega arith)) (r .1), r .2, rw (drop-cons σ i 0 h, v, e))
+
+pub chains-are-histories : Chains-are-histories
+chains-are-histories q posed n at σ long shows starts step ends =
+    let r = walk q n at σ long shows step n 0 (omega arith) in
+    leads-continuation q posed σ (record {
+      steps = n;
+      from = at 0;
+      to = r .0;
+      path = r .1;
+      starts = starts;
+      ends = subst⁻¹ (Ends q) (r .2) ends;
+      codes-are = r .3;
+    })
 
 -- CONSEQUENCES
 

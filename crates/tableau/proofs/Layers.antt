@@ -1,10 +1,9 @@
 -- Reached positions, layer by layer.
-use mathlib.Core.Path.{_≡_, refl}
-use mathlib.Core.Bool.{Bool, true}
-use mathlib.Core.Logic.{_↔_}
-use Prim.Native.Nat.{ℕ, zero, suc, _≤_, _<_}
+use mathlib.Core.Path.{_≡_}
+use mathlib.Core.Bool.{true}
+use Prim.Native.Nat.{ℕ, zero, suc, _≤_}
 use native.Mathlib.Omega.{arith}
-use Rattle.tableau.specs.Positions.{Position, Question, Starts, Step, Ends, Path, stay, go, Reached, Distance, Least-end, Counted}
+use Rattle.tableau.specs.Positions.{Position, Question, Starts, Step, Path, stay, go, Reached}
 use Rattle.tableau.specs.Theorems.{Closed-holds-all, Reached-by-step, Layer-by-layer, Counted-if-ends, Counted-if-none}
 
 closed-path : (q : Question) (P : Position → Type 0) → ((s s′ : Position) → P s → Step q s s′ → P s′)

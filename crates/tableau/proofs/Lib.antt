@@ -5,6 +5,7 @@ pub mod Histories
 pub mod Tests
 pub mod Branches
 pub mod Computed
+pub mod Progress
 pub mod Counting
 pub mod Searched
 pub mod Examples

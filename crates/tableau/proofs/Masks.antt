@@ -1,12 +1,12 @@
 -- Labels as numbers: their members, and that the computed expansion and next label have the members that they should.
-use mathlib.Core.Path.{_≡_, refl, sym, _∙_, ap, ap₂, subst, subst⁻¹}
+use mathlib.Core.Path.{_≡_, refl, sym, _∙_, ap, subst, subst⁻¹}
 use mathlib.Core.List.{List, [], _∷_}
-use mathlib.Core.Bool.{Bool, true, false, cond}
+use mathlib.Core.Bool.{Bool, true, false}
 use mathlib.Core.Logic.{_⊎_, inl, inr, _↔_}
-use Prim.Native.Nat.{ℕ, zero, suc, _+_, _-_, _*_, _/_, _%_, _^_, _≤_, _<_}
+use Prim.Native.Nat.{ℕ, zero, suc, _+_, _/_, _%_, _^_, _≤_, _<_}
 use native.Mathlib.Nat.{eq-or-lt-of-le}
 use native.Mathlib.Numerals.{one-add}
-use native.Mathlib.Decide.{map-dec, decLt, ℕ-discrete}
+use native.Mathlib.Decide.{decLt}
 use native.Mathlib.Omega.{arith}
 use lib.Bits.{bitOr, or-shr, or-mod}
 use lib.Dec.{T, eqb, eqb→eq, eqb-refl}
@@ -19,7 +19,7 @@ use Rattle.ltlf.specs.declared.node.Node.the-variants.{True, False, Atom, NotAt
 use Rattle.judge.specs.Formulas.{node-at, Among}
 use Rattle.judge.proofs.Trees.{operands-before}
 use Rattle.tableau.specs.Labels.{Label, _∈_, has, adding}
-use Rattle.tableau.specs.Expansion.{Choice, Side, one, other, parts, handed-on, Expansion, member, part, Handed-on, Next-label}
+use Rattle.tableau.specs.Expansion.{Choice, Side, one, other, parts, handed-on, Expansion, member, part, Next-label}
 use Rattle.tableau.specs.Masks.{expanded-below, expanded, handed-below, next-of}
 use Rattle.tableau.specs.Theorems.{Same-members, Expansion-is-computed, Next-is-computed}
 use Rattle.tableau.proofs.Steps.{part-before}
@@ -97,7 +97,7 @@ small (suc n) L h = let r : L / 2 < 2 ^ n = small n (L / 2) (λ f m. omega (arit
 -- THE COMPUTED TEST
 
 pub has? : (L : Label) (f : ℕ) → ((has L f ≡ true) × (f ∈ L)) ⊎ ((has L f ≡ false) × (¬ (f ∈ L)))
-unfolding has _∈_
+unfolding _∈_
 has? L f = go (eqb (L / 2 ^ f % 2) 1) refl
   where
     go : (v : Bool) → eqb (L / 2 ^ f % 2) 1 ≡ v → ((v ≡ true) × (L / 2 ^ f % 2 ≡ 1)) ⊎ ((v ≡ false) × (¬ (L / 2 ^ f % 2 ≡ 1)))
@@ -108,7 +108,6 @@ pub member? : (f : ℕ) (L : Label) → Dec (f ∈ L)
 member? f L = elim (has? L f) [ inl p ↦ yes (p .1) | inr p ↦ no (p .1) ]
 
 pub adding-has : (f : ℕ) (gs : List ℕ) (L : Label) → (f ∈ adding gs L) ↔ (Among f gs ⊎ (f ∈ L))
-unfolding adding
 adding-has f [] L = ((λ m. inr m), elim [ inl z ↦ absurd z | inr m ↦ m ])
 adding-has f (g ∷ gs) L = (
   (λ m. elim (or-has f (adding gs L) (2 ^ g) .0 m) [
@@ -123,7 +122,7 @@ adding-has f (g ∷ gs) L = (
     back ih (inl (inr a)) = or-has f (adding gs L) (2 ^ g) .1 (inl (ih (inl a)))
     back ih (inr m) = or-has f (adding gs L) (2 ^ g) .1 (inl (ih (inr m)))
 
--- THE SPREAD
+-- THE EXPANSION
 
 module _ (b : Contents) (pr : Proper b) (κ : Choice) (L : Label) where
   all : (S : Label) → ((f : ℕ) → f ∈ L → f ∈ S) → ((f g : ℕ) → 0 ≤ f → f ∈ S → Among g (parts (node-at b f) (κ f)) → g ∈ S)
@@ -135,7 +134,6 @@ module _ (b : Contents) (pr : Proper b) (κ : Choice) (L : Label) where
   expanded-ok : (k : ℕ) (S : Label) → ((f : ℕ) → f ∈ S → Expansion b κ L f) → ((f : ℕ) → f ∈ L → f ∈ S)
       → ((f g : ℕ) → k ≤ f → f ∈ S → Among g (parts (node-at b f) (κ f)) → g ∈ S)
       → (f : ℕ) → (f ∈ expanded-below b κ k S) ↔ Expansion b κ L f
-  unfolding expanded-below
   expanded-ok zero S sub base closed f = (sub f, all S base closed f)
   expanded-ok (suc k) S sub base closed f = elim (has? S k) [
     | inl p ↦ let e = p .0 in rw e (expanded-ok k S′ (sub′ (p .1)) (λ x m. adding-has x ps S .1 (inr (base x m))) (closed′ (p .1)) f)
@@ -173,7 +171,6 @@ past-node (m ∷ l) zero h = absurd (omega arith)
 past-node (m ∷ l) (suc f) h = past-node l f (omega arith)
 
 pub expansion-computed : Expansion-is-computed
-unfolding expanded
 expansion-computed b pr κ L =
     expanded-ok b pr κ L (length (b .nodes)) L (λ f m. member m) (λ f m. m)
     (λ f g h m a. absurd (subst (λ (x : Node). Among g (parts x (κ f))) (past-node (b .nodes) f h) a))
@@ -208,7 +205,6 @@ module _ (b : Contents) (κ : Choice) (S : Label) (g : ℕ) where
   From k = (f : ℕ) × (f < k) × (f ∈ S) × Among g (handed-on f (node-at b f) (κ f))
 
   handed-ok : (k : ℕ) → (g ∈ handed-below b κ k S) ↔ From k
-  unfolding handed-below
   handed-ok zero = ((λ m. absurd (zero-has g m)), (λ p. absurd (omega (arith, p .1))))
   handed-ok (suc k) = elim (has? S k) [
     | inl p ↦ let e = p .0 in rw e (there (handed-ok k) (p .1), back (handed-ok k))
@@ -237,7 +233,6 @@ module _ (b : Contents) (κ : Choice) (S : Label) (g : ℕ) where
       ]
 
 pub next-ok : (b : Contents) → Proper b → (κ : Choice) (L : Label) → Next-label b κ L (next-of b κ L)
-unfolding next-of
 next-ok b pr κ L g =
     let l = handed-ok b κ (expanded b κ L) g (length (b .nodes)) in (
       (λ m. let r = l .0 m in (r .0, expansion-computed b pr κ L (r .0) .0 (r .2), r .3)),

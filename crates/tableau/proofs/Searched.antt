@@ -3,35 +3,23 @@ use mathlib.Core.Path.{_≡_, refl, sym, _∙_, ap, ap₂, subst, subst⁻¹}
 use mathlib.Core.Bool.{Bool, true, false, cond}
 use mathlib.Core.List.{List, [], _∷_, _++_}
 use mathlib.Core.Logic.{_⊎_, inl, inr, _↔_}
-use Prim.Native.Nat.{ℕ, zero, suc, pred, _+_, _^_, _≤_, _<_}
-use native.Mathlib.Nat.{eq-or-lt-of-le}
-use native.Mathlib.Decide.{decLe}
+use Prim.Native.Nat.{ℕ, zero, suc, _+_, _*_, _^_, _≤_, _<_}
+use native.Mathlib.Nat.{mul-one}
 use native.Mathlib.Omega.{arith}
 use lib.Dec.{ltb}
 use lib.ListN.{length, length-append}
 use Rattle.std.proofs.shelf.Tests.{ltb-true, ltb-false}
-use Rattle.tableau.specs.Positions.{Position, Question, Starts, Step, Ends, Path, stay, go, Reached, Distance, No-end, Least-end, Counted, Rows, In, Distinct, last-place}
-use Rattle.tableau.specs.Continuations.{Well-posed, Possible, Shortest, Impossible}
+use Rattle.tableau.specs.Positions.{Position, Question, Step, No-end, Least-end, Counted, Rows, In, Distinct, last-place}
+use Rattle.tableau.specs.Continuations.{Well-posed, Shortest, Impossible}
 use Rattle.tableau.specs.Search.{any, gather, below, ends, steps, starts, fresh, Answer, can, cannot, short, layers, answer}
-use Rattle.tableau.specs.Theorems.{Says, Answer-is-right, Counted-are-finite}
-use Rattle.tableau.proofs.Histories.{shortest-is-least, none-is-none, possible-visits, reached-bounded}
-use Rattle.tableau.proofs.Layers.{closed-reached, reached-by-step, layer-by-layer, counted-if-ends, counted-if-none}
+use Rattle.tableau.specs.Theorems.{Says, Answer-is-right, Counted-are-finite, Counted-are-bounded, Questions-are-decided}
+use Rattle.tableau.proofs.Histories.{shortest-is-least, none-is-none, reached-bounded}
+use Rattle.tableau.proofs.Progress.{Progress, begin, advance, end-found, exhausted, seen-counted}
 use Rattle.tableau.proofs.Tests.{no-way, in-append, in-below, any-ok, gather-ok}
-use Rattle.tableau.proofs.Computed.{ends-ok, steps-ok, starts-ok, in?, fresh-ok, fresh-distinct}
-use Rattle.tableau.proofs.Counting.{no-longer, distinct-append, same-count}
+use Rattle.tableau.proofs.Computed.{ends-ok, steps-ok, starts-ok, fresh-ok, fresh-distinct}
+use Rattle.tableau.proofs.Counting.{no-longer, distinct-append, same-count, length-below, length-gather}
 
--- what is known once the layer at distance d is there
-record Known (q : Question) (d : ℕ) (seen layer : List Position) : Type 0 where
-  seen-is : (e : Position) → In e seen ↔ ((n : ℕ) × (n ≤ d) × Distance q e n)
-  layer-is : (e : Position) → In e layer ↔ Distance q e d
-  no-end : (e : Position) (n : ℕ) → n < d → Distance q e n → ¬ Ends q e
-  closed : (s e : Position) (n : ℕ) → n < d → Distance q s n → Step q s e → In e seen
-  distinct : Distinct seen
-
-no-path : (q : Question) {s e : Position} → Path q 0 s e → Starts q s → Starts q e
-no-path q stay h = h
-
--- what the search has found, with the list that it has seen
+-- what a search has found, with a list of counted positions
 abbrev pub Found : Question → ℕ → Answer → Type 0
 Found q rows (can n r) = (ps : List Position) × Rows q ps × (r ≡ length ps) × (length ps ≤ rows) × ((d : ℕ) × (n ≡ suc d) × Least-end q d)
 Found q rows (cannot r) = (ps : List Position) × Rows q ps × (r ≡ length ps) × (length ps ≤ rows) × No-end q
@@ -39,150 +27,46 @@ Found q rows (short r) =
     (ps : List Position) × Distinct ps × ((e : Position) → In e ps → Counted q e) × (rows < length ps) × (r ≡ rows)
 
 module _ (q : Question) (posed : Well-posed q) where
-  reached-seen : (d : ℕ) (seen layer : List Position) → Known q d seen layer → (n : ℕ) (e : Position) → n ≤ d → Reached q n e → In e seen
-  reached-seen d seen layer k zero e h r = k .seen-is e .1 (0, h, (r, λ m x. omega arith))
-  reached-seen d seen layer k (suc n) e h r =
-      let u = reached-by-step q n e .0 r in
-      let s = k .seen-is (u .0) .0 (reached-seen d seen layer k n (u .0) (omega arith) (u .1)) in
-      let l : s .0 ≤ n = s .2 .1 n (u .1) in
-      k .closed (u .0) e (s .0) (omega arith) (s .2) (u .2)
+  ended : (rows d : ℕ) (seen layer : List Position) → Progress q d seen layer → length seen ≤ rows → any (ends q) layer ≡ true
+      → Found q rows (can (suc d) (length seen))
+  ended rows d seen layer k fit e =
+      let r = any-ok (ends q) layer .0 e in
+      let f = end-found q d seen layer k (r .0) (r .1) (ends-ok q posed (r .0) .0 (r .2)) in
+      (seen, f .1, refl, fit, (d, refl, f .0))
 
-  module _ (rows : ℕ) where
-    found : (d : ℕ) (seen layer : List Position) → Known q d seen layer → length seen ≤ rows → any (ends q) layer ≡ true
-        → Found q rows (can (suc d) (length seen))
-    found d seen layer k fit e =
-        let r = any-ok (ends q) layer .0 e in
-        let le : Least-end q d = (
-          (r .0, ends-ok q posed (r .0) .0 (r .2), k .layer-is (r .0) .0 (r .1)),
-          λ x n en di. elim (decLe d n) [ yes l ↦ l | no l ↦ absurd (k .no-end x n (omega arith) di en) ],
-        ) in (
-          seen,
-          record {
-            apart = k .distinct;
-            all = λ x. (
-              (λ h. let z = k .seen-is x .0 h in counted-if-ends q d le x .1 (z .0, z .2, z .1)),
-              (λ c. let z = counted-if-ends q d le x .0 c in k .seen-is x .1 (z .0, z .2, z .1)),
-            );
-          },
-          refl,
-          fit,
-          (d, refl, le),
-        )
+  emptied : (rows d : ℕ) (seen : List Position) → Progress q d seen [] → length seen ≤ rows → Found q rows (cannot (length seen))
+  emptied rows d seen k fit = let f = exhausted q d seen k in (seen, f .1, refl, fit, f .0)
 
-    exhausted : (d : ℕ) (seen : List Position) → Known q d seen [] → length seen ≤ rows → Found q rows (cannot (length seen))
-    exhausted d seen k fit = (
-      seen,
-      record {
-        apart = k .distinct;
-        all = λ x. (
-          (λ h. let z = k .seen-is x .0 h in counted-if-none q none x .1 (z .0, z .2)),
-          (λ c. all-seen (c .0) x (c .1 .0)),
-        );
-      },
-      refl,
-      fit,
-      none,
-    )
-      where
-        early : (s : Position) → In s seen → (n : ℕ) × (n < d) × Distance q s n
-        early s h =
-            let z = k .seen-is s .0 h in (
-              z .0,
-              elim (eq-or-lt-of-le (z .1)) [
-                | inl e ↦ absurd (k .layer-is s .1 (subst (Distance q s) e (z .2)))
-                | inr l ↦ l
-              ],
-              z .2,
-            )
+  outnumbered : (rows d : ℕ) (seen layer : List Position) → Progress q d seen layer → rows < length seen → Found q rows (short rows)
+  outnumbered rows d seen layer k h = (seen, k .distinct, seen-counted q d seen layer k, h, refl)
 
-        all-seen : (n : ℕ) (e : Position) → Reached q n e → In e seen
-        all-seen =
-            closed-reached q (λ s. In s seen)
-            (λ s st. reached-seen d seen [] k 0 s (omega arith) (s, st, stay))
-            (λ s s′ h st. let z = early s h in k .closed s s′ (z .0) (z .1) (z .2) st)
-
-        none : No-end q
-        none e n r en = let z = early e (all-seen n e r) in k .no-end e (z .0) (z .1) (z .2) en
-
-    -- what was seen is counted, though it may not be all
-    outnumbered : (d : ℕ) (seen layer : List Position) → Known q d seen layer → rows < length seen → Found q rows (short rows)
-    outnumbered d seen layer k h = (
-      seen,
-      k .distinct,
-      (λ e i. let z = k .seen-is e .0 i in (
-        z .0,
-        z .2,
-        λ d′ le. elim (decLe d d′) [
-          | yes l ↦ omega (arith, z .1)
-          | no l ↦ absurd (k .no-end (le .0 .0) d′ (omega arith) (le .0 .2) (le .0 .1))
-        ],
-      )),
-      h,
-      refl,
-    )
-
-  more : (d : ℕ) (seen layer : List Position) → Known q d seen layer → any (ends q) layer ≡ false
-      → Known q (suc d) (fresh seen (gather (steps q) layer) ++ seen) (fresh seen (gather (steps q) layer))
-  more d seen layer k none = record {
-    seen-is = λ e. (
-      (λ h. elim (in-append e new seen .0 h) [
-        | inl a ↦ (suc d, omega arith, new-is e .0 a)
-        | inr c ↦ (let z = k .seen-is e .0 c in (z .0, omega (arith, z .1), z .2))
-      ]),
-      (λ z. in-append e new seen .1 (elim (eq-or-lt-of-le (z .1)) [
-        | inl w ↦ inl (new-is e .1 (subst (Distance q e) w (z .2)))
-        | inr l ↦ inr (k .seen-is e .1 (z .0, omega arith, z .2))
-      ])),
-    );
-    layer-is = new-is;
-    no-end = λ e n h di en. elim (eq-or-lt-of-le h) [
-      | inl w ↦ (let w′ : n ≡ d = omega arith in
-          let m = k .layer-is e .1 (subst (Distance q e) w′ di) in
-          no-way (sym none ∙ any-ok (ends q) layer .1 (e, m, ends-ok q posed e .1 en)))
-      | inr l ↦ k .no-end e n (omega arith) di en
-    ];
-    closed = λ s e n h di st. in-append e new seen .1 (elim (in? e seen) [
-      | yes a ↦ inr a
-      | no a ↦ inl (elim (eq-or-lt-of-le h) [
-        | inl w ↦ (let w′ : n ≡ d = omega arith in
-            fresh-ok seen (gather (steps q) layer) e .1
-            (gather-ok (steps q) layer e .1 (s, k .layer-is s .1 (subst (Distance q s) w′ di), steps-ok q posed s e .1 st), a))
-        | inr l ↦ absurd (a (k .closed s e n (omega arith) di st))
-      ])
-    ]);
-    distinct = distinct-append new seen (fresh-distinct seen (gather (steps q) layer)) (k .distinct)
-        (λ e a c. fresh-ok seen (gather (steps q) layer) e .0 a .1 c);
-  }
+  more : (d : ℕ) (seen layer : List Position) → Progress q d seen layer → any (ends q) layer ≡ false
+      → Progress q (suc d) (fresh seen (gather (steps q) layer) ++ seen) (fresh seen (gather (steps q) layer))
+  more d seen layer k none =
+      advance q d seen layer k (λ e i en. no-way (sym none ∙ any-ok (ends q) layer .1 (e, i, ends-ok q posed e .1 en))) (new ++ seen) new new-is
+      (λ e. in-append e new seen)
+      (distinct-append new seen (fresh-distinct seen (gather (steps q) layer)) (k .distinct) (λ e a c. new-is e .0 a .1 c))
     where
       new : List Position
       new = fresh seen (gather (steps q) layer)
 
-      new-is : (e : Position) → In e new ↔ Distance q e (suc d)
-      new-is e = (
-        (λ h.
-            let f = fresh-ok seen (gather (steps q) layer) e .0 h in
-            let g = gather-ok (steps q) layer e .0 (f .0) in (
-              reached-by-step q d e .1 (g .0, k .layer-is (g .0) .0 (g .1) .0, steps-ok q posed (g .0) e .0 (g .2)),
-              λ m r. elim (decLe (suc d) m) [ yes l ↦ l | no l ↦ absurd (f .1 (reached-seen d seen layer k m e (omega arith) r)) ],
-            )),
-        (λ di.
-            let p = layer-by-layer q d e di in
-            fresh-ok seen (gather (steps q) layer) e .1 (
-              gather-ok (steps q) layer e .1 (p .0, k .layer-is (p .0) .1 (p .1), steps-ok q posed (p .0) e .1 (p .2)),
-              λ h. let z = k .seen-is e .0 h in omega (arith, z .1, di .1 (z .0) (z .2 .0)),
-            )),
-      )
+      new-is : (e : Position) → In e new ↔ (((s : Position) × In s layer × Step q s e) × (¬ In e seen))
+      new-is e =
+          let f = fresh-ok seen (gather (steps q) layer) e in
+          let g = gather-ok (steps q) layer e in (
+            (λ h. let r = g .0 (f .0 h .0) in ((r .0, r .1, steps-ok q posed (r .0) e .0 (r .2)), f .0 h .1)),
+            (λ p. f .1 (g .1 (p .0 .0, p .0 .1, steps-ok q posed (p .0 .0) e .1 (p .0 .2)), p .1)),
+          )
 
   -- every layer before d added a position, so that the fuel lasts until the rows are outnumbered
-  layers-found : (rows c d : ℕ) (seen layer : List Position) → c + d ≡ suc rows → d + length layer ≤ length seen → Known q d seen layer
+  layers-found : (rows c d : ℕ) (seen layer : List Position) → c + d ≡ suc rows → d + length layer ≤ length seen → Progress q d seen layer
       → Found q rows (layers c q rows d seen layer)
-  unfolding layers
   layers-found rows zero d seen layer f h k = outnumbered rows d seen layer k (omega arith)
   layers-found rows (suc c) d seen [] f h k = go (ltb rows (length seen)) refl
     where
       go : (v : Bool) → ltb rows (length seen) ≡ v → Found q rows (cond v (short rows) (cannot (length seen)))
       go true e = outnumbered rows d seen [] k (ltb-true rows (length seen) e)
-      go false e = exhausted rows d seen k (ltb-false rows (length seen) e)
+      go false e = emptied rows d seen k (ltb-false rows (length seen) e)
   layers-found rows (suc c) d seen (s ∷ ss) f h k =
       go (ltb rows (length seen)) refl (any (ends q) (s ∷ ss)) refl
       (λ k′. layers-found rows c (suc d) (new ++ seen) new (omega arith) (let z = length-append new seen in omega arith) k′)
@@ -191,33 +75,21 @@ module _ (q : Question) (posed : Well-posed q) where
       new = fresh seen (gather (steps q) (s ∷ ss))
 
       go : (v : Bool) → ltb rows (length seen) ≡ v → (w : Bool) → any (ends q) (s ∷ ss) ≡ w
-          → (Known q (suc d) (new ++ seen) new → Found q rows (layers c q rows (suc d) (new ++ seen) new))
+          → (Progress q (suc d) (new ++ seen) new → Found q rows (layers c q rows (suc d) (new ++ seen) new))
           → Found q rows (cond v (short rows) (cond w (can (suc d) (length seen)) (layers c q rows (suc d) (new ++ seen) new)))
       go true e w e′ ih = outnumbered rows d seen (s ∷ ss) k (ltb-true rows (length seen) e)
-      go false e true e′ ih = found rows d seen (s ∷ ss) k (ltb-false rows (length seen) e) e′
+      go false e true e′ ih = ended rows d seen (s ∷ ss) k (ltb-false rows (length seen) e) e′
       go false e false e′ ih = ih (more d seen (s ∷ ss) k e′)
 
-  answer-found : (rows : ℕ) → Found q rows (answer q rows)
-  unfolding answer
-  answer-found rows = layers-found rows (suc rows) 0 first first (omega arith) (omega arith) (record {
-    seen-is = λ e. (
-      (λ h. (0, omega arith, at-start e .0 h)),
-      (λ z. let w : z .0 ≡ 0 = omega (arith, z .1) in at-start e .1 (subst (Distance q e) w (z .2))),
-    );
-    layer-is = at-start;
-    no-end = λ e n h di en. omega arith;
-    closed = λ s e n h di st. absurd (omega arith);
-    distinct = fresh-distinct [] (starts q);
-  })
+  pub answer-found : (rows : ℕ) → Found q rows (answer q rows)
+  answer-found rows =
+      layers-found rows (suc rows) 0 first first (omega arith) (omega arith) (begin q first (fresh-distinct [] (starts q)) (λ e. (
+        (λ h. starts-ok q posed e .0 (fresh-ok [] (starts q) e .0 h .0)),
+        (λ st. fresh-ok [] (starts q) e .1 (starts-ok q posed e .1 st, λ z. z)),
+      )))
     where
       first : List Position
       first = fresh [] (starts q)
-
-      at-start : (e : Position) → In e first ↔ Distance q e 0
-      at-start e = (
-        (λ h. let s = starts-ok q posed e .0 (fresh-ok [] (starts q) e .0 h .0) in ((e, s, stay), λ m r. omega arith)),
-        (λ di. fresh-ok [] (starts q) e .1 (starts-ok q posed e .1 (no-path q (di .0 .2) (di .0 .1)), λ z. z)),
-      )
 
 -- THE COUNTED POSITIONS ARE FINITELY MANY
 
@@ -254,10 +126,39 @@ counted-finite q posed = go (answer q (length (within q))) (answer-found q posed
         let h = no-longer (f .0) (within q) (f .1) (λ e i. counted-within q posed e (f .2 e i)) in
         let l = f .3 in absurd (omega arith)
 
+within-length : (q : Question) → length (within q) ≡ suc (last-place q) * (2 ^ length (q .book .nodes) * q .meaning .codes)
+unfolding within
+within-length q =
+    let M = q .meaning .codes in
+    let N = 2 ^ length (q .book .nodes) in
+    let codes : ℕ → ℕ → ℕ → List Position = λ p L c. record { place = p; label = L; code = c } ∷ [] in
+    let labels : ℕ → ℕ → List Position = λ p L. gather (codes p L) (below M) in
+    let one : (p L : ℕ) → length (labels p L) ≡ M =
+    λ p L. length-gather (codes p L) 1 (λ c. refl) (below M) ∙ mul-one (length (below M)) ∙ length-below M in
+    let row : (p : ℕ) → length (gather (labels p) (below N)) ≡ N * M =
+    λ p. length-gather (labels p) M (one p) (below N) ∙ ap (λ (x : ℕ). x * M) (length-below N) in
+    length-gather (λ (p : ℕ). gather (labels p) (below N)) (N * M) row (below (suc (last-place q)))
+    ∙ ap (λ (x : ℕ). x * (N * M)) (length-below (suc (last-place q)))
+
+pub counted-bounded : Counted-are-bounded
+counted-bounded q posed ps r =
+    subst (λ (x : ℕ). length ps ≤ x) (within-length q) (no-longer ps (within q) (r .apart) (λ e i. counted-within q posed e (r .all e .0 i)))
+
+pub questions-decided : Questions-are-decided
+questions-decided q posed = go (answer q (length (within q))) (answer-found q posed (length (within q)))
+  where
+    go : (a : Answer) → Found q (length (within q)) a → ((n : ℕ) × Shortest q n) ⊎ Impossible q
+    go (can n r) f = inl (suc (f .4 .0), shortest-is-least q posed (f .4 .0) .0 (f .4 .2))
+    go (cannot r) f = inr (none-is-none q posed .1 (f .4))
+    go (short r) f =
+        let h = no-longer (f .0) (within q) (f .1) (λ e i. counted-within q posed e (f .2 e i)) in
+        let l = f .3 in absurd (omega arith)
+
 -- THE ANSWER
 
 module _ (q : Question) (posed : Well-posed q) (rows : ℕ) (ps : List Position) (all : Rows q ps) where
-  found-says : (a : Answer) → Found q rows a → Says q rows ps a
+  -- what was found is what the answer says
+  pub found-says : (a : Answer) → Found q rows a → Says q rows ps a
   found-says (can n r) f =
       let z = same-count q (f .0) ps (f .1) all in (
         omega (arith, f .3),
@@ -293,3 +194,9 @@ answer-right q posed rows ps all a =
       (λ e. subst (Says q rows ps) e f),
       (λ s. one-answer q posed rows ps all (answer q rows) a f s),
     )
+
+-- a search that found something has the answer
+pub answer-from : (q : Question) → Well-posed q → (rows : ℕ) (a : Answer) → Found q rows a → answer q rows ≡ a
+answer-from q posed rows a f =
+    let c = counted-finite q posed in
+    answer-right q posed rows (c .0) (c .1) a .1 (found-says q posed rows (c .0) (c .1) a f)

@@ -1,28 +1,25 @@
 -- One step of the tableau: what holds at a visit, and what a sound expansion asks of it.
-use mathlib.Core.Path.{_≡_, refl, sym, subst, subst⁻¹}
-use mathlib.Core.Bool.{true, false}
+use mathlib.Core.Path.{_≡_, refl, subst, subst⁻¹}
 use mathlib.Core.List.{List, [], _∷_}
-use mathlib.Core.Logic.{_⊎_, inl, inr}
-use Prim.Native.Nat.{ℕ, zero, suc, _+_, _≤_, _<_}
-use native.Mathlib.Nat.{eq-or-lt-of-le, le-refl, le-of-suc-le-suc}
+use mathlib.Core.Logic.{inl, inr}
+use Prim.Native.Nat.{ℕ, zero, suc, _<_}
+use native.Mathlib.Nat.{eq-or-lt-of-le}
 use native.Mathlib.Omega.{arith}
-use lib.ListN.{length, drop}
+use lib.ListN.{length}
 use Rattle.theory.specs.Meaning.{Meaning}
-use Rattle.theory.specs.declared.next.Next.{Next}
-use Rattle.theory.specs.declared.next.Next.the-variants.{Code, Last}
 use Rattle.ltlf.specs.Nodes.{operands}
 use Rattle.ltlf.specs.Contents.{Contents, Proper}
 use Rattle.ltlf.specs.declared.node.Node.{Node}
 use Rattle.ltlf.specs.declared.node.Node.the-variants.{True, False, Atom, NotAtom, And, Or, Tomorrow, WeakTomorrow, Until, Release}
-use Rattle.judge.specs.Formulas.{Formula, truth, falsity, atom, negated-atom, both, either, tomorrow, weak-tomorrow, until, release, formed, formula, node-at, Among}
-use Rattle.judge.specs.Histories.{visit, after, first}
+use Rattle.judge.specs.Formulas.{either, until, release, formed, formula, node-at, Among}
+use Rattle.judge.specs.Histories.{visit, after}
 use Rattle.judge.specs.Holding.{Holds}
 use Rattle.judge.proofs.Unfolding.{until-now, until-later, until-split, release-now, release-later, release-holds, release-split}
 use Rattle.judge.proofs.Deciding.{holds?}
 use Rattle.judge.proofs.Trees.{operands-before, formula-is}
 use Rattle.tableau.specs.Labels.{Label, _∈_}
 use Rattle.tableau.specs.Expansion.{Choice, Side, one, other, parts, handed-on, Expansion, member, part, Goes-on, Admitted, Sound, Handed-on}
-use Rattle.tableau.specs.Theorems.{All-hold, Step-is-sound, Step-is-complete}
+use Rattle.tableau.specs.Theorems.{All-hold, Step-is-sound, Step-is-complete, Expansion-is-least}
 
 -- what comes after a visit is a code exactly if the visit is not the last
 code-inside : (σ : List ℕ) (i : ℕ) → Goes-on (after σ i) → suc i < length σ
@@ -39,7 +36,7 @@ inside-code (c ∷ σ) (suc i) h = inside-code σ i (omega arith)
 
 -- SOUNDNESS
 
--- a node whose parts and whose later formulas hold
+-- a node whose parts hold here, and what it hands on at the next visit
 node-sound : (t : Meaning) (b : Contents) (σ : List ℕ) (i : ℕ) → i < length σ → (f : ℕ) (m : Node) (s : Side)
     → formula b f ≡ formed (formula b) m
     → Admitted t (visit σ i) (after σ i) m s
@@ -220,3 +217,7 @@ step-complete t b pr σ i h L al = (
   (λ l g k. next-holds t b σ i h (k .0) (node-at b (k .0)) (formula-is b pr (k .0))
       (subst (Holds t σ i) (formula-is b pr (k .0)) (true-expansion t b pr σ i h L al (k .0) (k .1))) l g (k .2)),
 )
+
+pub expansion-least : Expansion-is-least
+expansion-least b κ L p base closed f (member m) = base f m
+expansion-least b κ L p base closed g (part {f = f} x a) = closed f g (expansion-least b κ L p base closed f x) a

@@ -1,5 +1,5 @@
 -- Computed tests and lists: what they say.
-use mathlib.Core.Path.{_≡_, refl, sym, _∙_, subst}
+use mathlib.Core.Path.{_≡_, refl, sym, subst}
 use mathlib.Core.Bool.{Bool, true, false, cond, not, _&&_, _||_}
 use mathlib.Core.List.{List, [], _∷_, _++_}
 use mathlib.Core.Logic.{_⊎_, inl, inr, _↔_}
@@ -49,7 +49,6 @@ in-append e (x ∷ xs) ys = (there (in-append e xs ys .0), back (in-append e xs 
     back ih (inr c) = inr (ih (inr c))
 
 pub in-below : (f n : ℕ) → In f (below n) ↔ (f < n)
-unfolding below
 in-below f zero = ((λ h. absurd h), (λ h. absurd (omega arith)))
 in-below f (suc n) = (
   (λ h. elim (in-append f (below n) (n ∷ []) .0 h) [
@@ -63,7 +62,6 @@ in-below f (suc n) = (
 )
 
 pub any-ok : {X : Type 0} (p : X → Bool) (xs : List X) → (any p xs ≡ true) ↔ ((x : X) × In x xs × (p x ≡ true))
-unfolding any
 any-ok p [] = ((λ e. no-way e), (λ h. absurd (h .1)))
 any-ok {X} p (x ∷ xs) = (
   (λ e. elim (or-ok (p x) (any p xs) .0 e) [
@@ -77,7 +75,6 @@ any-ok {X} p (x ∷ xs) = (
 )
 
 pub gather-ok : {X Y : Type 0} (p : X → List Y) (xs : List X) (e : Y) → In e (gather p xs) ↔ ((x : X) × In x xs × In e (p x))
-unfolding gather
 gather-ok p [] e = ((λ h. absurd h), (λ h. absurd (h .1)))
 gather-ok {X} p (x ∷ xs) e = (
   (λ h. elim (in-append e (p x) (gather p xs) .0 h) [
@@ -96,6 +93,5 @@ when-ok true xs e = ((λ h. (refl, h)), (λ p. p .1))
 when-ok false xs e = ((λ z. absurd z), (λ p. no-way (p .0)))
 
 pub some-ok : {X : Type 0} (xs : List X) → (some xs ≡ true) ↔ ((x : X) × In x xs)
-unfolding some
 some-ok [] = ((λ e. no-way e), (λ h. absurd (h .1)))
 some-ok (x ∷ xs) = ((λ e. (x, inl refl)), (λ h. refl))

@@ -1,7 +1,7 @@
 -- The histories that a question asks for.
 use mathlib.Core.Path.{_≡_}
 use mathlib.Core.List.{List, _++_}
-use Prim.Native.Nat.{ℕ, suc, _≤_, _<_}
+use Prim.Native.Nat.{ℕ, _≤_, _<_}
 use lib.ListN.{length}
 use Rattle.ltlf.specs.Contents.{Proper}
 use Rattle.judge.specs.Histories.{visit}

@@ -4,11 +4,10 @@ use mathlib.Core.List.{List, [], _∷_}
 use mathlib.Core.Bool.{Bool, true, false}
 use Prim.Native.Nat.{ℕ, zero, suc}
 use lib.Dec.{eqb}
-use lib.ListN.{length}
 use Rattle.theory.specs.declared.next.Next.{Next}
 use Rattle.theory.specs.declared.next.Next.the-variants.{Code, Last}
 use Rattle.ltlf.specs.declared.node.Node.{Node}
-use Rattle.ltlf.specs.declared.node.Node.the-variants.{True, False, Atom, NotAtom, And, Or, Tomorrow, WeakTomorrow, Until, Release}
+use Rattle.ltlf.specs.declared.node.Node.the-variants.{True, False, Atom, NotAtom, And, Tomorrow, WeakTomorrow, Until, Release}
 use Rattle.tableau.specs.Positions.{Question}
 use Rattle.tableau.specs.Continuations.{Well-posed}
 use Rattle.tableau.specs.Search.{Answer, can, cannot, short, answer}
@@ -50,6 +49,14 @@ climbing kept = asked 3 3 tries-fact (Atom 0 ∷ Atom 1 ∷ Atom 2 ∷ Until 1 2
 abbrev pub flag : (nodes : List Node) → (rules : List ℕ) → Question
 flag nodes rules = asked 2 1 flag-fact nodes rules []
 
+-- X T on three flags
+abbrev pub three-flags : Question
+three-flags = asked 8 3 flag-fact (True ∷ Tomorrow 0 ∷ []) (1 ∷ []) []
+
+-- G 0 and F ! 0 on one flag
+abbrev pub always-and-not : Question
+always-and-not = flag (False ∷ Atom 0 ∷ Release 0 1 ∷ True ∷ NotAtom 0 ∷ Until 3 4 ∷ And 2 5 ∷ []) (6 ∷ [])
+
 -- G of the formula that the node puts, on three tries
 abbrev pub always : ((atom code : ℕ) → Next → Bool) → Node → Question
 always fact node = asked 3 1 fact (False ∷ node ∷ Release 0 1 ∷ []) (2 ∷ []) []
@@ -67,10 +74,22 @@ tried =
     ∷ (flag (True ∷ Tomorrow 0 ∷ []) (1 ∷ []), 4096, can 2 4)
     ∷ (flag (False ∷ WeakTomorrow 0 ∷ []) (1 ∷ []), 4096, can 1 2)
     ∷ (flag (True ∷ Tomorrow 0 ∷ False ∷ WeakTomorrow 2 ∷ []) (1 ∷ 3 ∷ []), 4096, cannot 4)
-    ∷ (flag (False ∷ Atom 0 ∷ Release 0 1 ∷ True ∷ NotAtom 0 ∷ Until 3 4 ∷ And 2 5 ∷ []) (6 ∷ []), 4096, cannot 4)
+    ∷ (always-and-not, 4096, cannot 4)
     ∷ (always weak-fact (Atom 0), 4096, can 1 3)
     ∷ (always strong-fact (Atom 0), 4096, cannot 3)
     ∷ (always strong-fact (NotAtom 0), 4096, can 1 3)
+    ∷ []
+
+-- Questions at the boundaries: no row; a whole layer that has to fit; both sides of an until, with {T} and {T, F 0} as two labels; no rules.
+abbrev pub boundaries : List (Question × ℕ × Answer)
+boundaries =
+    (climbing [], 0, short 0)
+    ∷ (three-flags, 9, short 9)
+    ∷ (three-flags, 15, short 15)
+    ∷ (three-flags, 16, can 2 16)
+    ∷ (asked 2 1 flag-fact (True ∷ Tomorrow 0 ∷ Atom 0 ∷ Until 0 2 ∷ And 1 3 ∷ []) (4 ∷ []) (1 ∷ []), 4096, can 2 5)
+    ∷ (flag [] [], 2, can 1 2)
+    ∷ (asked 2 1 flag-fact [] [] (0 ∷ 1 ∷ 1 ∷ []), 3, can 3 3)
     ∷ []
 
 -- each question is well posed and has the answer beside it
@@ -81,3 +100,7 @@ Each-answered (p ∷ ps) = (Well-posed (p .0) × (answer (p .0) (p .1) ≡ p .2)
 -- All the questions have their answers.
 abbrev pub Examples-answered : Type 0
 Examples-answered = Each-answered tried
+
+-- The questions at the boundaries have their answers.
+abbrev pub Boundaries-answered : Type 0
+Boundaries-answered = Each-answered boundaries

@@ -16,10 +16,10 @@ unfoldable pub _∈_ : ℕ → Label → Type 0
 f ∈ L = L / 2 ^ f % 2 ≡ 1
 
 -- whether formula f is in the label
-unfoldable pub has : Label → ℕ → Bool
+abbrev pub has : Label → ℕ → Bool
 has L f = eqb (L / 2 ^ f % 2) 1
 
 -- the label with these formulas too
-unfoldable pub adding : List ℕ → Label → Label
+abbrev pub adding : List ℕ → Label → Label
 adding [] L = L
 adding (f ∷ fs) L = bitOr (adding fs L) (2 ^ f)

@@ -8,20 +8,20 @@ use Rattle.tableau.specs.Labels.{Label, has, adding}
 use Rattle.tableau.specs.Expansion.{Choice, parts, handed-on}
 
 -- the label with the parts of its members below k, the greatest member first
-unfoldable pub expanded-below : Contents → Choice → (k : ℕ) → Label → Label
+abbrev pub expanded-below : Contents → Choice → (k : ℕ) → Label → Label
 expanded-below b κ zero S = S
 expanded-below b κ (suc k) S = expanded-below b κ k (cond (has S k) (adding (parts (node-at b k) (κ k)) S) S)
 
 -- the expansion of a label
-unfoldable pub expanded : Contents → Choice → Label → Label
+abbrev pub expanded : Contents → Choice → Label → Label
 expanded b κ L = expanded-below b κ (length (b .nodes)) L
 
 -- what the members below k hand on
-unfoldable pub handed-below : Contents → Choice → (k : ℕ) → Label → Label
+abbrev pub handed-below : Contents → Choice → (k : ℕ) → Label → Label
 handed-below b κ zero S = 0
 handed-below b κ (suc k) S =
     cond (has S k) (adding (handed-on k (node-at b k) (κ k)) (handed-below b κ k S)) (handed-below b κ k S)
 
 -- the next label
-unfoldable pub next-of : Contents → Choice → Label → Label
+abbrev pub next-of : Contents → Choice → Label → Label
 next-of b κ L = handed-below b κ (length (b .nodes)) (expanded b κ L)

@@ -16,13 +16,12 @@ use Rattle.tableau.specs.Expansion.{Side, one, other, parts, handed-on}
 use Rattle.tableau.specs.Positions.{Position, Question, last-place}
 
 -- whether a code comes next
-unfoldable pub goes-on : Next → Bool
+abbrev pub goes-on : Next → Bool
 goes-on (Code c) = true
 goes-on Last = false
 
 -- whether a member is admitted at a code and what comes next
-unfoldable pub admitted : Meaning → (code : ℕ) → Next → Node → Side → Bool
-unfolding goes-on
+abbrev pub admitted : Meaning → (code : ℕ) → Next → Node → Side → Bool
 admitted m c n True s = true
 admitted m c n False s = false
 admitted m c n (Atom a) s = m .fact a c n
@@ -36,7 +35,7 @@ admitted m c n (Until f g) other = goes-on n
 admitted m c n (Release f g) s = true
 
 -- the sides that a choice can give a formula, where they differ
-unfoldable pub sides : Node → List Side
+abbrev pub sides : Node → List Side
 sides True = one ∷ []
 sides False = one ∷ []
 sides (Atom a) = one ∷ []
@@ -49,19 +48,18 @@ sides (Until f g) = one ∷ other ∷ []
 sides (Release f g) = one ∷ other ∷ []
 
 -- whether some element passes
-unfoldable pub any : {X : Type 0} → (X → Bool) → List X → Bool
+abbrev pub any : {X : Type 0} → (X → Bool) → List X → Bool
 any p [] = false
 any p (x ∷ xs) = p x || any p xs
 
 -- the lists of all elements, one after another
-unfoldable pub gather : {X Y : Type 0} → (X → List Y) → List X → List Y
+abbrev pub gather : {X Y : Type 0} → (X → List Y) → List X → List Y
 gather p [] = []
 gather p (x ∷ xs) = p x ++ gather p xs
 
--- The next labels of the sound choices, where the members of `members` below k are still to be expanded and `handed` was handed on so far:
--- from the greatest number down, with two branches only at a member that is an or, an until or a release.
-unfoldable pub branches : Meaning → Contents → (code : ℕ) → Next → (k : ℕ) → (members handed : Label) → List Label
-unfolding gather sides admitted
+-- The next labels of the sound choices, where the members below k are still to be expanded, and `handed` is handed on so far.
+-- It goes from the greatest number down, with two branches only at a member that is an or, an until or a release.
+abbrev pub branches : Meaning → Contents → (code : ℕ) → Next → (k : ℕ) → (members handed : Label) → List Label
 branches m b c n zero members handed = handed ∷ []
 branches m b c n (suc k) members handed =
     cond (has members k)
@@ -73,35 +71,31 @@ branches m b c n (suc k) members handed =
     (branches m b c n k members handed)
 
 -- the next labels of a label's sound choices at a code and what comes next
-unfoldable pub next-labels : Meaning → Contents → Label → (code : ℕ) → Next → List Label
-unfolding branches
+abbrev pub next-labels : Meaning → Contents → Label → (code : ℕ) → Next → List Label
 next-labels m b L c n = branches m b c n (length (b .nodes)) L 0
 
 -- the numbers below n
-unfoldable pub below : ℕ → List ℕ
+abbrev pub below : ℕ → List ℕ
 below zero = []
 below (suc n) = below n ++ n ∷ []
 
 -- the codes that visit p may have
-unfoldable pub visits-at : (codes : ℕ) → (kept : List ℕ) → (p : ℕ) → List ℕ
-unfolding below
+abbrev pub visits-at : (codes : ℕ) → (kept : List ℕ) → (p : ℕ) → List ℕ
 visits-at codes [] p = below codes
 visits-at codes (v ∷ vs) zero = v ∷ []
 visits-at codes (v ∷ vs) (suc p) = visits-at codes vs p
 
 -- whether the list is not empty
-unfoldable pub some : {X : Type 0} → List X → Bool
+abbrev pub some : {X : Type 0} → List X → Bool
 some [] = false
 some (x ∷ xs) = true
 
 -- whether a position ends
-unfoldable pub ends : Question → Position → Bool
-unfolding some next-labels
+abbrev pub ends : Question → Position → Bool
 ends q s = eqb (s .place) (last-place q) && some (next-labels (q .meaning) (q .book) (s .label) (s .code) Last)
 
 -- the positions one step on
-unfoldable pub steps : Question → Position → List Position
-unfolding gather next-labels visits-at
+abbrev pub steps : Question → Position → List Position
 steps q s =
     gather
     (λ c. gather (λ L. record { place = min (suc (s .place)) (last-place q); label = L; code = c } ∷ [])
@@ -109,40 +103,40 @@ steps q s =
     (visits-at (q .meaning .codes) (q .kept) (suc (s .place)))
 
 -- the starting positions
-unfoldable pub starts : Question → List Position
-unfolding gather visits-at
+abbrev pub starts : Question → List Position
 starts q =
     gather (λ c. record { place = 0; label = adding (q .book .rules) 0; code = c } ∷ []) (visits-at (q .meaning .codes) (q .kept) 0)
 
 -- whether two positions are equal
-unfoldable pub alike : Position → Position → Bool
+abbrev pub alike : Position → Position → Bool
 alike s e = eqb (s .place) (e .place) && (eqb (s .label) (e .label) && eqb (s .code) (e .code))
 
 -- those of the second list that are not in the first, each once
-unfoldable pub fresh : (seen : List Position) → List Position → List Position
-unfolding any alike
+abbrev pub fresh : (seen : List Position) → List Position → List Position
 fresh seen [] = []
 fresh seen (s ∷ ss) = cond (any (alike s) seen) (fresh seen ss) (s ∷ fresh (s ∷ seen) ss)
+
+-- the positions one step from a layer that were not seen before, each once
+abbrev pub next-layer : Question → (seen layer : List Position) → List Position
+next-layer q seen layer = fresh seen (gather (steps q) layer)
 
 -- An answer: a shortest continuation's number of visits, or that there is none, each with the number of counted positions;
 -- or that there were too few rows, with their number.
 pub data Answer : Type 0 where
-  can : (length rows : ℕ) → Answer
+  can : (visits rows : ℕ) → Answer
   cannot : (rows : ℕ) → Answer
   short : (rows : ℕ) → Answer
 
 -- The layers from distance d on: `seen` are all positions up to that distance, `layer` those at it.
 -- Each layer but the last adds a position, so that as many layers as rows and one are enough.
-unfoldable pub layers : (fuel : ℕ) → Question → (rows d : ℕ) → (seen layer : List Position) → Answer
-unfolding any ends fresh gather steps
+abbrev pub layers : (fuel : ℕ) → Question → (rows d : ℕ) → (seen layer : List Position) → Answer
 layers zero q rows d seen layer = short rows
 layers (suc k) q rows d seen [] = cond (ltb rows (length seen)) (short rows) (cannot (length seen))
 layers (suc k) q rows d seen (s ∷ ss) =
     cond (ltb rows (length seen)) (short rows)
     (cond (any (ends q) (s ∷ ss)) (can (suc d) (length seen))
-    (layers k q rows (suc d) (fresh seen (gather (steps q) (s ∷ ss)) ++ seen) (fresh seen (gather (steps q) (s ∷ ss)))))
+    (layers k q rows (suc d) (next-layer q seen (s ∷ ss) ++ seen) (next-layer q seen (s ∷ ss))))
 
--- THE ANSWER to a question with a number of rows
-unfoldable pub answer : Question → (rows : ℕ) → Answer
-unfolding layers starts fresh Rattle.tableau.specs.Labels.has Rattle.tableau.specs.Labels.adding
+-- THE ANSWER to a question with a number of rows: the layers from the starting positions on.
+abbrev pub answer : Question → (rows : ℕ) → Answer
 answer q rows = layers (suc rows) q rows 0 (fresh [] (starts q)) (fresh [] (starts q))

@@ -2,18 +2,18 @@
 use mathlib.Core.Path.{_≡_}
 use mathlib.Core.Bool.{Bool, true}
 use mathlib.Core.List.{List}
-use mathlib.Core.Logic.{_↔_}
-use Prim.Native.Nat.{ℕ, suc, _^_, _≤_, _<_}
+use mathlib.Core.Logic.{_⊎_, _↔_}
+use Prim.Native.Nat.{ℕ, suc, _*_, _^_, _≤_, _<_}
 use lib.ListN.{length}
 use Rattle.theory.specs.Meaning.{Meaning}
 use Rattle.theory.specs.declared.next.Next.{Next}
 use Rattle.ltlf.specs.Contents.{Contents, Proper}
-use Rattle.judge.specs.Formulas.{formula}
+use Rattle.judge.specs.Formulas.{formula, node-at, Among}
 use Rattle.judge.specs.Histories.{visit, after}
 use Rattle.judge.specs.Holding.{Holds}
 use Rattle.tableau.specs.Labels.{Label, _∈_}
-use Rattle.tableau.specs.Expansion.{Choice, Expansion, Sound, Handed-on, Next-label}
-use Rattle.tableau.specs.Positions.{Question, Position, Starts, Step, Ends, Path, codes-on, Reached, Distance, No-end, Least-end, Counted, Rows, In, last-place}
+use Rattle.tableau.specs.Expansion.{Choice, parts, Expansion, Sound, Handed-on, Next-label}
+use Rattle.tableau.specs.Positions.{Question, Position, Starts, Step, Ends, Reached, Distance, No-end, Least-end, Counted, Rows, In, last-place}
 use Rattle.tableau.specs.Continuations.{Continuation, Possible, Shortest, Impossible, Well-posed, Leads}
 use Rattle.tableau.specs.Masks.{expanded, next-of}
 use Rattle.tableau.specs.Search.{Answer, can, cannot, short, answer, next-labels}
@@ -39,11 +39,30 @@ Step-is-complete =
     → All-hold m b σ i (λ f. f ∈ L)
     → (κ : Choice) × Sound m b κ L (visit σ i) (after σ i) × (suc i < length σ → All-hold m b σ (suc i) (Handed-on b κ L))
 
+-- The expansion lies inside every set that holds the label and the parts of its members.
+abbrev pub Expansion-is-least : Type 0
+Expansion-is-least =
+    (b : Contents) (κ : Choice) (L : Label) (p : ℕ → Bool)
+    → ((f : ℕ) → f ∈ L → p f ≡ true)
+    → ((f g : ℕ) → p f ≡ true → Among g (parts (node-at b f) (κ f)) → p g ≡ true)
+    → (f : ℕ) → Expansion b κ L f → p f ≡ true
+
 -- PATHS AND HISTORIES
 
 -- The continuations are exactly the codes along the paths from a starting position to one that ends.
 abbrev pub Paths-are-histories : Type 0
 Paths-are-histories = (q : Question) → Well-posed q → (σ : List ℕ) → Continuation q σ ↔ Leads q σ
+
+-- A sequence of positions, from a starting one by single steps to one that ends, shows a continuation by its codes.
+abbrev pub Chains-are-histories : Type 0
+Chains-are-histories =
+    (q : Question) → Well-posed q → (n : ℕ) (at : ℕ → Position) (σ : List ℕ)
+    → length σ ≡ suc n
+    → ((i : ℕ) → i ≤ n → visit σ i ≡ at i .code)
+    → Starts q (at 0)
+    → ((i : ℕ) → i < n → Step q (at i) (at (suc i)))
+    → Ends q (at n)
+    → Continuation q σ
 
 -- A continuation of n + 1 visits exists exactly if a position that ends is reached by n steps.
 abbrev pub Lengths-are-reached : Type 0
@@ -126,7 +145,17 @@ Next-labels-are-computed =
 
 -- The counted positions are finitely many: some list holds exactly them, each once.
 abbrev pub Counted-are-finite : Type 0
-Counted-are-finite = (q : Question) → Well-posed q → (ps : List Position) × Rows q ps
+Counted-are-finite = (q : Question) → Well-posed q → (counted : List Position) × Rows q counted
+
+-- At most as many positions are counted as there are places, labels and codes.
+abbrev pub Counted-are-bounded : Type 0
+Counted-are-bounded =
+    (q : Question) → Well-posed q → (counted : List Position) → Rows q counted
+    → length counted ≤ suc (last-place q) * (2 ^ length (q .book .nodes) * q .meaning .codes)
+
+-- Every question is decided: a shortest continuation has some number of visits, or there is no continuation of any length.
+abbrev pub Questions-are-decided : Type 0
+Questions-are-decided = (q : Question) → Well-posed q → ((n : ℕ) × Shortest q n) ⊎ Impossible q
 
 -- What an answer says, where the list holds the counted positions. `can n`: they fit the rows and a shortest continuation has n visits;
 -- `cannot`: they fit the rows and there is no continuation of any length, each with their number;

@@ -1,6 +1,5 @@
 // The answer to a question.
-ghost use Rattle.tableau.specs.Theorems.{Counted-are-finite, Answer-is-right};
-ghost use Rattle.tableau.specs.Examples.{Examples-answered};
+ghost use Rattle.tableau.specs.Theorems.{Counted-are-finite, Answer-is-right, Counted-are-bounded, Questions-are-decided};
 
 /// The counted positions are finitely many.
 pub fn counted_are_finite() -> u8
@@ -16,9 +15,16 @@ pub fn answer_is_right() -> u8
     0
 }
 
-/// The examples have the answers that stand beside them.
-pub fn examples_answered() -> u8
-    ensures { λ _. ⌜ Examples-answered ⌝ }
+/// At most as many positions are counted as there are places, labels and codes.
+pub fn counted_are_bounded() -> u8
+    ensures { λ _. ⌜ Counted-are-bounded ⌝ }
+{
+    0
+}
+
+/// Every question is decided: some shortest continuation, or none of any length.
+pub fn questions_are_decided() -> u8
+    ensures { λ _. ⌜ Questions-are-decided ⌝ }
 {
     0
 }

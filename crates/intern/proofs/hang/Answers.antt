@@ -1,4 +1,3 @@
-use mathlib.Core.Path.{refl, sym, ap, _∙_}
 use native.Mathlib.Omega.{arith}
 use Rattle.intern.proofs.Entering.{hangs}
 use Rattle.intern.proofs.hang.Needs as need

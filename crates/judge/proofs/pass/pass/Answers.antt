@@ -33,3 +33,6 @@ loop-number-again-then-not-node-holds g c =
     (book-proper (c .args .book .now)) (c .pre .within) (c .loop-number .here) (c .args .later) (c .loop-number .number)
     (c .next-after-next .result) (c .node-at-node .result) (c .pre .past) (c .next-after-next .ensures) (c .node-at-node .ensures)
     (omega arith) (c .loop-number .inv) (c .if-not-node-holds .ensures tt)
+
+pub with-here-requires : need.with-here-requires
+with-here-requires g c κs = omega (arith, book-proper (c .args .book .now) .few)

@@ -1,4 +1,4 @@
-use mathlib.Core.Path.{refl, sym, _∙_}
+use mathlib.Core.Path.{sym, _∙_}
 use Rattle.theory.proofs.Answered.{answers}
 use Rattle.flags.specs.Meaning.{flags-meaning}
 use Rattle.flags.specs.Model.{flags-of}

@@ -1,0 +1,9 @@
+pub mod Bounds
+pub mod Filled
+pub mod Grids
+pub mod Means
+pub mod Products
+pub mod Readings
+pub mod Rosters
+pub mod Sums
+pub mod Terms

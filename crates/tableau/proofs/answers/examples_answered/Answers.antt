@@ -1,5 +1,0 @@
-use Rattle.tableau.proofs.Examples.{examples-answered}
-use Rattle.tableau.proofs.answers.examples_answered.Needs as need
-
-pub returns : need.returns
-returns c = examples-answered
