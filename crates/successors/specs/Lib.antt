@@ -1,0 +1,4 @@
+pub mod Cells
+pub mod Handing
+pub mod Ways
+pub mod Tables
