@@ -9,10 +9,10 @@ use Rattle.std.proofs.shelf.Lists.{getD-default}
 use Rattle.std.proofs.shelf.Tests.{cases-lt, cases-eq}
 use Rattle.intern.specs.declared.cell.Cell.{Cell}
 use Rattle.intern.specs.Links.{leaf}
-use Rattle.tableau.specs.Positions.{Position}
+use Rattle.tableau.specs.Positions.{Position, Question}
 use Rattle.search.specs.declared.row.Row.{Row}
 use Rattle.search.specs.Rows.{position}
-use Rattle.search.specs.Layers.{held, Holds, Listed, Indexed-rows, Grown, After, Came}
+use Rattle.search.specs.Layers.{held, Holds, Listed, Indexed-rows, Grown, After, Came, Bounded, All-bounded}
 
 -- any cell
 abbrev pub blank : Cell Row
@@ -132,3 +132,8 @@ whole-twice P Q R F xs ys n m h v w rpq p x =
     (λ y. listed-wider ys 0 n 0 m p (omega arith) (h .rises) (listed-kept xs ys 0 n p (h .kept) (v p y)))
     (w p)
     (rpq p x)
+
+-- what was bounded stays so
+pub bounded-kept : (q : Question) (P : Row → Type 0) (xs ys : List (Cell Row)) (a b i n : ℕ) (e : Cell Row) → Grown P xs ys b n → All-bounded q xs a b
+    → a ≤ i → i < b → Bounded q (held ys i e)
+bounded-kept q P xs ys a b i n e g bounded lo hi = subst (Bounded q) (sym (ap position (g .kept i e hi))) (bounded i e lo hi)

@@ -3,8 +3,8 @@ ghost use Prim.Native.Nat.{_≤_, _^_};
 ghost use lib.ListN.{length};
 ghost use mathlib.Core.Path.{_≡_};
 ghost use Rattle.search.specs.Layers.{All-bounded, After, Came, Found-in, Indexed-rows, Searched, Spread};
+ghost use Rattle.search.specs.Questions.{Ready, Room};
 ghost use Rattle.search.specs.Rows.{position};
-ghost use Rattle.tableau.specs.Continuations.{Well-posed};
 ghost use Rattle.tableau.specs.Positions.{Starts, Step, Ends};
 use crate::Row;
 use crate::row::RowEquality;
@@ -13,6 +13,7 @@ use crate::space::Space;
 use intern::Cell;
 use intern::Slot;
 use intern::find_or_add;
+use successors::NextLabel;
 
 /// What a search has found.
 #[derive(Clone, Copy, Drop)]
@@ -40,7 +41,9 @@ pub(crate) fn enter(rows: &mut [Cell<Row>], filled: usize, row: Row) -> Option<u
 
 /// The first row of rows[start..end) whose position ends.
 pub(crate) fn first_end<S: Space>(space: &S, rows: &[Cell<Row>], start: usize, end: usize) -> Option<usize>
-    requires { ⌜ start ≤ end ⌝ ∗ ⌜ end ≤ length (now rows) ⌝ ∗ ⌜ All-bounded (S·Space .question (now space)) (now rows) start end ⌝ }
+    requires ready { ⌜ Ready (S·Space .question (now space)) ⌝ }
+    requires span { ⌜ start ≤ end ⌝ ∗ ⌜ end ≤ length (now rows) ⌝ }
+    requires bounded { ⌜ All-bounded (S·Space .question (now space)) (now rows) start end ⌝ }
     ensures { λ r. ⌜ Found-in (Ends (S·Space .question (now (space .entry)))) (now (rows .entry)) start end r ⌝ }
 {
     for i in start..end {
@@ -52,13 +55,17 @@ pub(crate) fn first_end<S: Space>(space: &S, rows: &[Cell<Row>], start: usize, e
 }
 
 /// Enters behind rows[..end) what rows[start..end) step to; `None` where a row is wanted and none is left.
-pub(crate) fn expand_layer<S: Space>(space: &S, rows: &mut [Cell<Row>], start: usize, end: usize) -> Option<usize>
-    requires { ⌜ start ≤ end ⌝ ∗ ⌜ length (now rows) ≤ 2 ^ 32 ⌝ ∗ ⌜ Indexed-rows (now rows) end ⌝ ∗ ⌜ All-bounded (S·Space .question (now space)) (now rows) start end ⌝ }
+pub(crate) fn expand_layer<S: Space>(space: &S, rows: &mut [Cell<Row>], start: usize, end: usize, labels: &mut [Cell<NextLabel>]) -> Option<usize>
+    requires ready { ⌜ Ready (S·Space .question (now space)) ⌝ }
+    requires span { ⌜ start ≤ end ⌝ }
+    requires room { ⌜ Room (now rows) (now labels) ⌝ }
+    requires indexed { ⌜ Indexed-rows (now rows) end ⌝ }
+    requires bounded { ⌜ All-bounded (S·Space .question (now space)) (now rows) start end ⌝ }
     ensures { λ r. ⌜ Spread (Came (Step (S·Space .question (now (space .entry)))) (now (rows .entry)) start end) (After (Step (S·Space .question (now (space .entry)))) (now (rows .entry)) start end) (now (rows .entry)) (now (rows .exit)) end r ⌝ }
 {
     let mut filled = end;
     for i in start..end {
-        match space.expand(rows[i].item, i as u32, rows, filled) {
+        match space.expand(rows[i].item, i as u32, rows, filled, labels) {
             Some(n) => {
                 filled = n;
             }
@@ -71,8 +78,9 @@ pub(crate) fn expand_layer<S: Space>(space: &S, rows: &mut [Cell<Row>], start: u
 }
 
 /// Enters the positions up to the least distance at which one ends, or all that steps lead to.
-pub(crate) fn by_layers<S: Space>(space: &S, rows: &mut [Cell<Row>]) -> Found
-    requires { ⌜ Well-posed (S·Space .question (now space)) ⌝ ∗ ⌜ length (now rows) ≤ 2 ^ 32 ⌝ }
+pub(crate) fn by_layers<S: Space>(space: &S, rows: &mut [Cell<Row>], labels: &mut [Cell<NextLabel>]) -> Found
+    requires ready { ⌜ Ready (S·Space .question (now space)) ⌝ }
+    requires room { ⌜ Room (now rows) (now labels) ⌝ }
     ensures { λ r. ⌜ Searched (Starts (S·Space .question (now (space .entry)))) (Step (S·Space .question (now (space .entry)))) (Ends (S·Space .question (now (space .entry)))) (now (rows .entry)) (now (rows .exit)) r ⌝ }
 {
     let Some(mut filled) = space.begin(rows) else {
@@ -84,7 +92,7 @@ pub(crate) fn by_layers<S: Space>(space: &S, rows: &mut [Cell<Row>]) -> Found
         if let Some(i) = first_end(space, rows, start, filled) {
             return Found::Can(i, filled, depth);
         }
-        let Some(more) = expand_layer(space, rows, start, filled) else {
+        let Some(more) = expand_layer(space, rows, start, filled, labels) else {
             return Found::Short(depth + 1);
         };
         start = filled;

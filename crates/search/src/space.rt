@@ -4,10 +4,12 @@ ghost use lib.ListN.{length};
 ghost use mathlib.Core.Path.{_≡_};
 ghost use Rattle.std.specs.Orderings.{Decides};
 ghost use Rattle.search.specs.Layers.{Bounded, Indexed-rows, Spread};
+ghost use Rattle.search.specs.Questions.{Ready, Room};
 ghost use Rattle.search.specs.Rows.{position};
 ghost use Rattle.tableau.specs.Positions.{Question, Starts, Step, Ends};
 use crate::Row;
 use intern::Cell;
+use successors::NextLabel;
 
 /// The positions of a question.
 pub(crate) trait Space {
@@ -16,17 +18,22 @@ pub(crate) trait Space {
 
     /// Whether the position of `row` ends.
     fn finish(&self, row: Row) -> bool
-        requires { ⌜ Bounded (question (now self)) (position row) ⌝ }
+        requires ready { ⌜ Ready (question (now self)) ⌝ }
+        requires bounded { ⌜ Bounded (question (now self)) (position row) ⌝ }
         ensures { λ r. ⌜ Decides r (Ends (question (now (self .entry))) (position row)) ⌝ };
 
     /// Enters the starting positions, and says how many there are; `None` where a row is wanted and none is left.
     fn begin(&self, rows: &mut [Cell<Row>]) -> Option<usize>
-        requires { ⌜ length (now rows) ≤ 2 ^ 32 ⌝ }
+        requires ready { ⌜ Ready (question (now self)) ⌝ }
+        requires room { ⌜ length (now rows) ≤ 2 ^ 32 ⌝ }
         ensures { λ r. ⌜ Spread (λ e. e .from ≡ 0) (Starts (question (now (self .entry)))) (now (rows .entry)) (now (rows .exit)) 0 r ⌝ };
 
     /// Enters behind the first `filled` rows what `row`, the row `from`, steps to, and says how many are filled then;
     /// `None` where a row is wanted and none is left.
-    fn expand(&self, row: Row, from: u32, rows: &mut [Cell<Row>], filled: usize) -> Option<usize>
-        requires { ⌜ Bounded (question (now self)) (position row) ⌝ ∗ ⌜ length (now rows) ≤ 2 ^ 32 ⌝ ∗ ⌜ Indexed-rows (now rows) filled ⌝ }
+    fn expand(&self, row: Row, from: u32, rows: &mut [Cell<Row>], filled: usize, labels: &mut [Cell<NextLabel>]) -> Option<usize>
+        requires ready { ⌜ Ready (question (now self)) ⌝ }
+        requires bounded { ⌜ Bounded (question (now self)) (position row) ⌝ }
+        requires room { ⌜ Room (now rows) (now labels) ⌝ }
+        requires indexed { ⌜ Indexed-rows (now rows) filled ⌝ }
         ensures { λ r. ⌜ Spread (λ e. e .from ≡ from) (Step (question (now (self .entry))) (position row)) (now (rows .entry)) (now (rows .exit)) filled r ⌝ };
 }

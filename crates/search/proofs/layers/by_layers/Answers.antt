@@ -11,11 +11,21 @@ layers-holds g c = (omega arith, level-first _ _ _ _ _ _ _ (c .in-Some .ensures 
 
 pub first-end-requires : need.first-end-requires
 first-end-requires g c κs =
-    (c .layers .inv .1 .order, (c .layers .inv .1 .room, level-bounded _ (c .pre .0) _ _ _ _ _ (c .layers .inv .1)))
+    record {
+      ready = c .pre .ready;
+      span = (c .layers .inv .1 .order, c .layers .inv .1 .room);
+      bounded = level-bounded _ (c .pre .ready .posed) _ _ _ _ _ (c .layers .inv .1);
+    }
 
 pub expand-layer-requires : need.expand-layer-requires
 expand-layer-requires g c κs =
-    (c .layers .inv .1 .order, (omega (arith, c .layers .kept .rows), (c .layers .inv .1 .indexed, level-bounded _ (c .pre .0) _ _ _ _ _ (c .layers .inv .1))))
+    record {
+      ready = c .pre .ready;
+      span = c .layers .inv .1 .order;
+      room = (omega (arith, c .layers .kept .rows, c .layers .kept .labels, c .begin .kept .rows, c .pre .room .0), omega (arith, c .layers .kept .labels, c .pre .room .1));
+      indexed = c .layers .inv .1 .indexed;
+      bounded = level-bounded _ (c .pre .ready .posed) _ _ _ _ _ (c .layers .inv .1);
+    }
 
 pub returns-in-Some-first-end : need.returns-in-Some-first-end
 returns-in-Some-first-end g c =

@@ -8,7 +8,7 @@ use Rattle.search.proofs.Lists.{here, none-more, listed-wider}
 use Rattle.search.proofs.layers.first_end.Needs as need
 
 pub finish-requires : need.finish-requires
-finish-requires g c κs = c .pre .1 .1 _ _ (omega arith) (omega arith)
+finish-requires g c κs = record { ready = c .pre .ready; bounded = c .pre .bounded _ _ (omega arith) (omega arith) }
 
 pub returns-then-finish : need.returns-then-finish
 returns-then-finish g c =
