@@ -1,3 +1,4 @@
 pub mod Limits
 pub mod Filling
 pub mod Atoms
+pub mod Shown

@@ -2,3 +2,4 @@ pub mod Model
 pub mod Meaning
 pub mod Ranges
 pub mod Filling
+pub mod Bits

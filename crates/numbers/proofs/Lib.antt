@@ -1,9 +1,11 @@
 pub mod Bounds
 pub mod Filled
 pub mod Grids
+pub mod Limited
 pub mod Means
 pub mod Products
 pub mod Readings
 pub mod Rosters
+pub mod Shown
 pub mod Sums
 pub mod Terms

@@ -60,6 +60,7 @@ may-add-variable m name low high =
     is-name name
     && (not (isSome (variable-number name (m .variables))) && (ltb (length (m .variables)) 8 && bounds-fit (combinations (m .variables)) low high))
 
+-- what adding a variable answers
 abbrev pub variable-answer : NumbersModel → List ℕ → (low high : ℤ) → Result (Unit {0}) FillRefusal
 variable-answer m name low high = cond (may-add-variable m name low high) (Ok tt) (Err Variable)
 
@@ -72,6 +73,7 @@ variable-leaves m name low high =
 abbrev pub may-add-atom : NumbersModel → List Term → (constant : ℤ) → Bool
 may-add-atom m terms constant = sum-fits (length (m .variables)) terms constant && ltb (length (m .atoms)) 32
 
+-- what adding an atom answers
 abbrev pub atom-answer : NumbersModel → List Term → (constant : ℤ) → Result (Unit {0}) FillRefusal
 atom-answer m terms constant = cond (may-add-atom m terms constant) (Ok tt) (Err Atom)
 

@@ -24,9 +24,11 @@ use Rattle.numbers.specs.Values.{VariableModel, AtomModel, compared}
 abbrev pub bounds-of : List Variable → List (ℤ × ℤ)
 bounds-of vs = map (λ v. (v .low, v .high)) vs
 
+-- the bounds of the variables of a grid
 abbrev pub grid-bounds : Grid → List (ℤ × ℤ)
 grid-bounds g = bounds-of (take (g .count) (g .variables))
 
+-- the bounds in a grid that may be missing
 abbrev pub grid-seen : Option Grid → Option (List (ℤ × ℤ))
 grid-seen (Some g) = Some (grid-bounds g)
 grid-seen None = None
@@ -35,6 +37,7 @@ grid-seen None = None
 abbrev pub variable-made : (codes : ℕ) (low high : ℤ) → Option (ℤ × ℤ)
 variable-made codes low high = cond (bounds-fit codes low high) (Some (low, high)) None
 
+-- the bounds of a variable that may be missing
 abbrev pub variable-seen : Option Variable → Option (ℤ × ℤ)
 variable-seen (Some v) = Some (v .low, v .high)
 variable-seen None = None
@@ -63,6 +66,7 @@ named (n ∷ ns) (b ∷ bs) = record { name = n; low = b .0; high = b .1 } ∷ n
 abbrev pub atom-of : Atom → AtomModel
 atom-of a = record { terms = take (a .count) (a .terms); comparison = a .comparison; constant = a .constant }
 
+-- the atom that may be missing
 abbrev pub atom-seen : Option Atom → Option AtomModel
 atom-seen (Some a) = Some (atom-of a)
 atom-seen None = None
@@ -91,6 +95,7 @@ kept-value [] span i code = pos 0
 kept-value (v ∷ vs) span zero code = v .low +ℤ pos (code / span % v .width)
 kept-value (v ∷ vs) span (suc i) code = kept-value vs span i code
 
+-- the value of variable i in a code, read by its kept span
 abbrev pub grid-value : Grid → (i code : ℕ) → ℤ
 grid-value g i code = kept-value (g .variables) (getD (g .spans) i 0) i code
 
@@ -118,6 +123,7 @@ at-last moment.Now plain = plain
 at-last moment.Next plain = false
 at-last moment.WeakNext plain = true
 
+-- whether a kept atom holds at a code, by what comes next
 abbrev pub kept-holds : Grid → (code : ℕ) → Next → Atom → Bool
 kept-holds g code (next.Code n) a = kept-compared g code n a
 kept-holds g code next.Last a = at-last (a .strength) (kept-compared g code code a)

@@ -6,3 +6,4 @@ pub mod Kept
 pub mod Variables
 pub mod Model
 pub mod Filling
+pub mod Codes

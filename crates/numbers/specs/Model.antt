@@ -1,15 +1,18 @@
 -- What a numbers theory holds, and what it means.
-use mathlib.Core.Bool.{false}
+use mathlib.Core.Bool.{Bool, true, false, _&&_}
 use mathlib.Core.List.{List, [], _∷_, map}
 use mathlib.Core.Path.{_≡_, _∙_}
-use Prim.Native.Nat.{ℕ}
+use Prim.Native.Nat.{ℕ, _<_, _≤_}
 use native.Mathlib.Omega.{arith}
 use lib.IntN.{ℤ}
 use lib.ListN.{length, getD, take}
+use lib.Signed.{leZ}
 use Rattle.std.proofs.shelf.Lists.{length-map, length-take-le}
+use Rattle.names.specs.Letters.{is-name}
 use Rattle.theory.specs.Meaning.{Meaning, InRange}
 use Rattle.numbers.specs.declared.numbers.Numbers.{Numbers}
 use Rattle.numbers.specs.Kept.{atom-of, named}
+use Rattle.numbers.specs.Limits.{within, sum-fits}
 use Rattle.numbers.specs.Values.{VariableModel, AtomModel, combinations, atom-holds}
 use Rattle.numbers.specs.Variables.{variables-of}
 
@@ -45,3 +48,33 @@ numbers-ranges t = record {
 -- one variable with these bounds, and no atom
 abbrev pub started-with : List ℕ → List (ℤ × ℤ) → NumbersModel
 started-with name bounds = record { variables = named (name ∷ []) bounds; atoms = [] }
+
+-- the names of the variables, in their order
+abbrev pub names-of : List VariableModel → List (List ℕ)
+names-of vs = map (λ v. v .name) vs
+
+-- every variable's bounds lie within ±10,000, low ≤ high
+abbrev pub bounds-stand : List VariableModel → Bool
+bounds-stand [] = true
+bounds-stand (v ∷ vs) = (within 10000 (v .low) && (within 10000 (v .high) && leZ (v .low) (v .high))) && bounds-stand vs
+
+-- every atom is a sum of 1 to 4 terms over the variables, with its constant in range
+abbrev pub sums-stand : (variables : ℕ) → List AtomModel → Bool
+sums-stand variables [] = true
+sums-stand variables (a ∷ rest) = sum-fits variables (a .terms) (a .constant) && sums-stand variables rest
+
+-- The limits: 1 to 8 variables with different names of 1 to 8 letters, at most 4,096 codes, and at most 32 atoms.
+pub record Within (m : NumbersModel) : Type 0 where
+  pub some-variable : 1 ≤ length (m .variables)
+  pub few-variables : length (m .variables) ≤ 8
+  pub names-fit : (k : ℕ) → k < length (names-of (m .variables)) → is-name (getD (names-of (m .variables)) k []) ≡ true
+  pub names-differ : (j k : ℕ) → j < length (names-of (m .variables)) → k < length (names-of (m .variables))
+      → getD (names-of (m .variables)) j [] ≡ getD (names-of (m .variables)) k [] → j ≡ k
+  pub bounds-fit : bounds-stand (m .variables) ≡ true
+  pub few-codes : combinations (m .variables) ≤ 4096
+  pub few-atoms : length (m .atoms) ≤ 32
+  pub atoms-fit : sums-stand (length (m .variables)) (m .atoms) ≡ true
+
+-- every numbers theory is within the limits
+abbrev pub Numbers-are-within : Type 0
+Numbers-are-within = (t : Numbers) → Within (numbers-of t)

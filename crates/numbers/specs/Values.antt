@@ -66,6 +66,7 @@ plus (Some a) (Some b) = Some (a +ℤ b)
 abbrev pub sum-value : List VariableModel → (code : ℕ) → Next → List Term → Option ℤ
 sum-value vs code n ts = folded (λ sum t. plus sum (term-value vs code n t)) (Some (pos 0)) ts
 
+-- whether a sum is equal to, less than or at most a constant
 abbrev pub compared : Comparison → (sum constant : ℤ) → Bool
 compared Equal a b = leZ a b && leZ b a
 compared Less a b = ltZ a b

@@ -19,6 +19,7 @@ use Rattle.numbers.specs.Values.{VariableModel}
 abbrev pub texts : Roster → List (List ℕ)
 texts r = map text-of (items (r .cells) (r .count))
 
+-- the texts of names that may be missing
 abbrev pub texts-seen : Option Roster → Option (List (List ℕ))
 texts-seen (Some r) = Some (texts r)
 texts-seen None = None

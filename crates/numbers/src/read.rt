@@ -2,7 +2,7 @@
 ghost use mathlib.Core.Path.{_≡_};
 ghost use lib.ListN.{length};
 ghost use Rattle.numbers.specs.Filling.{variable-number, bounds-at};
-ghost use Rattle.numbers.specs.Model.{numbers-of};
+ghost use Rattle.numbers.specs.Model.{numbers-of, Numbers-are-within};
 use super::numbers::Numbers;
 
 impl Numbers {
@@ -30,4 +30,11 @@ impl Numbers {
         let variable = self.grid.variables[number as usize];
         Some((variable.low, variable.high))
     }
+}
+
+/// States that every numbers theory is within the limits.
+pub fn numbers_are_within() -> bool
+    ensures { λ _. ⌜ Numbers-are-within ⌝ }
+{
+    true
 }

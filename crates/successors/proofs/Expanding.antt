@@ -56,9 +56,9 @@ module _ (w : Moment) (b : Contents) (V : ℕ) (ws : List Ways) (rs ms : List �
   filled-force S P N u ins part-of ga xs ys n r v =
       let un = under-all S ins in
       let fo : Forced ms S N (bitOr N u) = record {
-            kept = in-or-left N u;
-            new = λ g m. elim (in-or N u g m) [ inl x ↦ inl x | inr x ↦ (let p = ga g .0 x in inr (p .0, (part-of (p .0) (p .1 .0), p .1 .1))) ];
-          } in
+        kept = in-or-left N u;
+        new = λ g m. elim (in-or N u g m) [ inl x ↦ inl x | inr x ↦ (let p = ga g .0 x in inr (p .0, (part-of (p .0) (p .1 .0), p .1 .1))) ];
+      } in
       filled-like (Hands w b S (bitOr N u)) (Hands w b S N) xs ys n r
       (λ q. hands-force w b (gd .proper) V (gd .viable) ms (gd .musts) S N (bitOr N u) q un fo .1)
       (λ q. hands-force w b (gd .proper) V (gd .viable) ms (gd .musts) S N (bitOr N u) q un fo .0)
@@ -88,36 +88,40 @@ module _ (w : Moment) (b : Contents) (V : ℕ) (ws : List Ways) (rs ms : List �
     filled-drop N idle xs ys n r v =
         let un = under-all S ins in
         let u : Union rest (2 ^ k) S =
-              λ f. ( (λ m. elim (ℕ-discrete f k) [ yes z ↦ inr (bit-has f k .1 z) | no ne ↦ inl (off f .1 (m, ne)) ])
-                   , elim [ inl m ↦ off f .0 m .0 | inr m ↦ subst⁻¹ (λ (y : ℕ). y ∈ S) (bit-has f k .0 m) (tp .within) ] ) in
+        λ f. (
+          (λ m. elim (ℕ-discrete f k) [ yes z ↦ inr (bit-has f k .1 z) | no ne ↦ inl (off f .1 (m, ne)) ]),
+          elim [ inl m ↦ off f .0 m .0 | inr m ↦ subst⁻¹ (λ (y : ℕ). y ∈ S) (bit-has f k .0 m) (tp .within) ],
+        ) in
         let id : (f : ℕ) → f ∈ 2 ^ k → (g : ℕ) → g ∈ getD rs f 0 → g ∈ N =
-              λ f m g h. idle g (subst (λ (y : ℕ). g ∈ getD rs y 0) (bit-has f k .0 m) h) in
+        λ f m g h. idle g (subst (λ (y : ℕ). g ∈ getD rs y 0) (bit-has f k .0 m) h) in
         filled-like (Hands w b rest N) (Hands w b S N) xs ys n r
         (λ q. hands-add w b (gd .proper) V (gd .viable) rs (gd .reaches) (length (b .nodes)) rest (2 ^ k) S N q (omega arith) un u
-          (λ f m. subst⁻¹ (λ (y : ℕ). y ∈ V) (bit-has f k .0 m) (ins k (tp .within))) id)
+        (λ f m. subst⁻¹ (λ (y : ℕ). y ∈ V) (bit-has f k .0 m) (ins k (tp .within))) id)
         (λ q. hands-drop w b (gd .proper) V (gd .viable) rs (gd .reaches) rest (2 ^ k) S N q un u id)
         v
 
     moves : (N : ℕ) (s : Side) (o : Offer) → Like-side b k s o → Moves b k s S N (bitOr rest (o .parts)) (bitOr N (o .handed))
     moves N s o l = record {
-      opened = λ f.
-        ( (λ m. elim (in-or rest (o .parts) f m) [
-            | inl x ↦ inl (off f .0 x)
-            | inr x ↦ inr (label-has f (parts (node-at b k) s) .0 (subst (λ (y : ℕ). f ∈ y) (l .0) x))
-          ])
-        , elim [
-            | inl p ↦ in-or-left rest (o .parts) f (off f .1 p)
-            | inr a ↦ in-or-right rest (o .parts) f (subst⁻¹ (λ (y : ℕ). f ∈ y) (l .0) (label-has f (parts (node-at b k) s) .1 a))
-          ] );
-      handed = λ g.
-        ( (λ m. elim (in-or N (o .handed) g m) [
-            | inl x ↦ inl x
-            | inr x ↦ inr (label-has g (handed-on k (node-at b k) s) .0 (subst (λ (y : ℕ). g ∈ y) (l .1) x))
-          ])
-        , elim [
-            | inl x ↦ in-or-left N (o .handed) g x
-            | inr a ↦ in-or-right N (o .handed) g (subst⁻¹ (λ (y : ℕ). g ∈ y) (l .1) (label-has g (handed-on k (node-at b k) s) .1 a))
-          ] );
+      opened = λ f. (
+        (λ m. elim (in-or rest (o .parts) f m) [
+          | inl x ↦ inl (off f .0 x)
+          | inr x ↦ inr (label-has f (parts (node-at b k) s) .0 (subst (λ (y : ℕ). f ∈ y) (l .0) x))
+        ]),
+        elim [
+          | inl p ↦ in-or-left rest (o .parts) f (off f .1 p)
+          | inr a ↦ in-or-right rest (o .parts) f (subst⁻¹ (λ (y : ℕ). f ∈ y) (l .0) (label-has f (parts (node-at b k) s) .1 a))
+        ],
+      );
+      handed = λ g. (
+        (λ m. elim (in-or N (o .handed) g m) [
+          | inl x ↦ inl x
+          | inr x ↦ inr (label-has g (handed-on k (node-at b k) s) .0 (subst (λ (y : ℕ). g ∈ y) (l .1) x))
+        ]),
+        elim [
+          | inl x ↦ in-or-left N (o .handed) g x
+          | inr a ↦ in-or-right N (o .handed) g (subst⁻¹ (λ (y : ℕ). g ∈ y) (l .1) (label-has g (handed-on k (node-at b k) s) .1 a))
+        ],
+      );
     }
 
     module _ (o : Offer) (way : Way-on w b V k o) where
@@ -146,12 +150,13 @@ module _ (w : Moment) (b : Contents) (V : ℕ) (ws : List Ways) (rs ms : List �
 
     -- the choice's side of the greatest member fits
     choice-fits : (N q : ℕ) (h : Hands w b S N q) → Fits w b V k (h .choice k)
-    choice-fits N q h =
-        ( h .sound k (member (tp .within))
-        , λ g a.
-            let l : g < k = part-before b (gd .proper) k (h .choice k) g a in
-            let l′ : k < length (b .nodes) = below-all in
-            sound-inside w b (gd .proper) V (gd .viable) (h .choice) S (h .sound) (suc g) g (omega arith) (omega arith) (part (member (tp .within)) a) )
+    choice-fits N q h = (
+      h .sound k (member (tp .within)),
+      λ g a.
+          let l : g < k = part-before b (gd .proper) k (h .choice k) g a in
+          let l′ : k < length (b .nodes) = below-all in
+          sound-inside w b (gd .proper) V (gd .viable) (h .choice) S (h .sound) (suc g) g (omega arith) (omega arith) (part (member (tp .within)) a),
+    )
 
     module _ (on : Ways) (is : Ways-on w b V k on) (N : ℕ) where
       abbrev After : Offer → ℕ → Type 0
@@ -191,17 +196,27 @@ module _ (w : Moment) (b : Contents) (V : ℕ) (ws : List Ways) (rs ms : List �
   ways-read S k on ins tp e =
       subst (Ways-on w b V k) (e on) (gd .ways-are k (under-all S ins k (tp .within)) (ins k (tp .within)) on)
 
+-- the empty label hands on the empty label alone
+pub filled-empty : (w : Moment) (b : Contents) → Proper b → (S : ℕ) → S ≡ 0 → (xs ys : Cells) (n : ℕ) (r : Option ℕ)
+    → Filled (λ q. q ≡ 0) xs ys n r → Filled (Hands-on w b S) xs ys n r
+filled-empty w b pr S e xs ys n r v =
+    let un : Under S 0 = λ f m. absurd (zero-has f (subst (λ (x : ℕ). f ∈ x) e m)) in
+    filled-like (λ q. q ≡ 0) (Hands-on w b S) xs ys n r
+    (λ q z. hands-start w b pr S q .0 (hands-none w b pr S 0 q un .1 z))
+    (λ q h. hands-none w b pr S 0 q un .0 (hands-start w b pr S q .1 h))
+    v
+
 -- AT EVERY MOMENT THAT THE MASK SHOWS
 
 module _ (b : Contents) (pr : Proper b) (truth : ℕ) (last : Bool) (L K : ℕ) (is : K ≡ known-part b L) (xs ys : Cells) (r : Option ℕ) where
   pub lists-next : Filled (Hands-on (moment truth last) b K) xs ys 0 r → Lists-next b truth last L xs ys r
   lists-next v w sh =
       let here : Filled (Hands-on (moment truth last) b (known-part b L)) xs ys 0 r =
-            subst (λ (x : ℕ). Filled (Hands-on (moment truth last) b x) xs ys 0 r) is v in
+      subst (λ (x : ℕ). Filled (Hands-on (moment truth last) b x) xs ys 0 r) is v in
       let shown = hands-shown b pr truth last w sh (known-part b L) in
       lists (Hands-on w b (known-part b L)) xs ys r
       (filled-like (Hands-on (moment truth last) b (known-part b L)) (Hands-on w b (known-part b L)) xs ys 0 r
-        (λ q. shown q .0) (λ q. shown q .1) here)
+      (λ q. shown q .0) (λ q. shown q .1) here)
 
 -- no choice is sound
 pub lists-never : (b : Contents) (truth : ℕ) (last : Bool) (V L K : ℕ) → Tells b truth last V → K ≡ known-part b L → (Inside K V → ⊥)
@@ -209,4 +224,4 @@ pub lists-never : (b : Contents) (truth : ℕ) (last : Bool) (V L K : ℕ) → T
 lists-never b truth last V L K te is out xs w sh =
     lists (Hands-on w b (known-part b L)) xs xs (Some 0)
     (filled-there (Hands-on w b (known-part b L)) xs 0 (taken-none xs)
-      (λ q h. absurd (out (subst⁻¹ (λ (x : ℕ). Inside x V) is (te .sound w sh L .0 (h .0, h .1 .0))))))
+    (λ q h. absurd (out (subst⁻¹ (λ (x : ℕ). Inside x V) is (te .sound w sh L .0 (h .0, h .1 .0))))))

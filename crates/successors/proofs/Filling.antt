@@ -33,9 +33,13 @@ top-at : (a j : ℕ) → 2 ^ j ≤ a → a < 2 ^ suc j → Top a j
 top-at a j le lt = record {
   within = elim (member? j a) [
     | yes m ↦ m
-    | no out ↦ absurd (omega (arith, le, small j a (λ f m.
-        let l : f < suc j = in-below a (suc j) f lt m in
-        elim (ℕ-discrete f j) [ yes e ↦ absurd (out (subst (λ (x : ℕ). x ∈ a) e m)) | no ne ↦ omega (arith, l, ne) ])))
+    | no out ↦ absurd (omega (
+      arith,
+      le,
+      small j a (λ f m.
+          let l : f < suc j = in-below a (suc j) f lt m in
+          elim (ℕ-discrete f j) [ yes e ↦ absurd (out (subst (λ (x : ℕ). x ∈ a) e m)) | no ne ↦ omega (arith, l, ne) ]),
+    ))
   ];
   under = λ f m. let l : f < suc j = in-below a (suc j) f lt m in omega arith;
   least = le;
@@ -67,26 +71,29 @@ pub gathering-more : (xs : List ℕ) (S rest rest′ r v k : ℕ) → k ∈ rest
     → Gathering xs S rest r → Gathering xs S rest′ (bitOr r v)
 gathering-more xs S rest rest′ r v k top off e ga = record {
   within = λ f m. ga .within f (off f .0 m .0);
-  some = λ g.
-    ( (λ x. elim (in-or r v g x) [
-        | inl y ↦ (let p = ga .some g .0 y in (p .0, (p .1 .0, ((λ m. p .1 .1 .0 (off (p .0) .0 m .0)), p .1 .1 .1))))
-        | inr y ↦ (k, (ga .within k top, ((λ m. off k .0 m .1 refl), subst (λ (z : ℕ). g ∈ z) e y)))
-      ])
-    , (λ p. elim (ℕ-discrete (p .0) k) [
-        | yes z ↦ in-or-right r v g (subst⁻¹ (λ (y : ℕ). g ∈ y) e (subst (λ (y : ℕ). g ∈ getD xs y 0) z (p .1 .1 .1)))
-        | no ne ↦ in-or-left r v g (ga .some g .1 (p .0, (p .1 .0, ((λ m. p .1 .1 .0 (off (p .0) .1 (m, ne))), p .1 .1 .1))))
-      ]) );
+  some = λ g. (
+    (λ x. elim (in-or r v g x) [
+      | inl y ↦ (let p = ga .some g .0 y in (p .0, (p .1 .0, ((λ m. p .1 .1 .0 (off (p .0) .0 m .0)), p .1 .1 .1))))
+      | inr y ↦ (k, (ga .within k top, ((λ m. off k .0 m .1 refl), subst (λ (z : ℕ). g ∈ z) e y)))
+    ]),
+    (λ p. elim (ℕ-discrete (p .0) k) [
+      | yes z ↦ in-or-right r v g (subst⁻¹ (λ (y : ℕ). g ∈ y) e (subst (λ (y : ℕ). g ∈ getD xs y 0) z (p .1 .1 .1)))
+      | no ne ↦ in-or-left r v g (ga .some g .1 (p .0, (p .1 .0, ((λ m. p .1 .1 .0 (off (p .0) .1 (m, ne))), p .1 .1 .1))))
+    ]),
+  );
 }
 
 pub gathering-done : (xs : List ℕ) (S rest r : ℕ) → rest ≡ 0 → Gathering xs S rest r → Gathers xs S r
-gathering-done xs S rest r e ga g =
-    ( (λ m. let p = ga .some g .0 m in (p .0, (p .1 .0, p .1 .1 .1)))
-    , (λ p. ga .some g .1 (p .0, (p .1 .0, ((λ m. zero-has (p .0) (subst (λ (x : ℕ). p .0 ∈ x) e m)), p .1 .1)))) )
+gathering-done xs S rest r e ga g = (
+  (λ m. let p = ga .some g .0 m in (p .0, (p .1 .0, p .1 .1 .1))),
+  (λ p. ga .some g .1 (p .0, (p .1 .0, ((λ m. zero-has (p .0) (subst (λ (x : ℕ). p .0 ∈ x) e m)), p .1 .1)))),
+)
 
 pub brings-or : (xs : List ℕ) (o : Offer) (u : ℕ) → Gathers xs (o .parts) u → Brings xs o (bitOr (o .handed) u)
-brings-or xs o u ga g =
-    ( (λ m. elim (in-or (o .handed) u g m) [ inl x ↦ inl x | inr x ↦ inr (ga g .0 x) ])
-    , elim [ inl x ↦ in-or-left (o .handed) u g x | inr p ↦ in-or-right (o .handed) u g (ga g .1 p) ] )
+brings-or xs o u ga g = (
+  (λ m. elim (in-or (o .handed) u g m) [ inl x ↦ inl x | inr x ↦ inr (ga g .0 x) ]),
+  elim [ inl x ↦ in-or-left (o .handed) u g x | inr p ↦ in-or-right (o .handed) u g (ga g .1 p) ],
+)
 
 and-bits : (x y : ℕ) → x < 2 → y < 2 → bitAnd x y ≡ 1 → (x ≡ 1) × (y ≡ 1)
 and-bits zero zero h k e = absurd (omega arith)
@@ -101,7 +108,7 @@ in-and : (a c g : ℕ) → g ∈ bitAnd a c → (g ∈ a) × (g ∈ c)
 unfolding _∈_
 in-and a c g m =
     let e : bitAnd a c / 2 ^ g % 2 ≡ bitAnd (a / 2 ^ g % 2) (c / 2 ^ g % 2) =
-          ap (λ (x : ℕ). x % 2) (and-shr a c g) ∙ and-mod (a / 2 ^ g) (c / 2 ^ g) 1 in
+    ap (λ (x : ℕ). x % 2) (and-shr a c g) ∙ and-mod (a / 2 ^ g) (c / 2 ^ g) 1 in
     and-bits (a / 2 ^ g % 2) (c / 2 ^ g % 2) (omega arith) (omega arith) (sym e ∙ m)
 
 -- the masks of formulas with one way on, and with two
@@ -141,6 +148,7 @@ module _ (w : Moment) (b : Contents) (V k : ℕ) (vi : Viable w b V) (k-in : k �
       fitting : (s : Side) → Fits w b V k s → Way-on w b V k second
       fitting one fit = absurd (out (fits-passes one first is fit))
       fitting other fit = (other, (fit, like other second is′))
+
       third : (s : Side) → Fits w b V k s → Like-side b k s second ⊎ ((false ≡ true) × Like-side b k s second)
       third one fit = absurd (out (fits-passes one first is fit))
       third other fit = inl (like other second is′)
@@ -172,29 +180,31 @@ module _ (w : Moment) (b : Contents) (V k : ℕ) (vi : Viable w b V) (k-in : k �
 
 module _ (w : Moment) (b : Contents) (pr : Proper b) (V : ℕ) (k : ℕ) (on : Ways) (is : Ways-on w b V k on) where
   from-brought : (xs : List ℕ) (s : Side) (o : Offer) → Like-side b k s o → (g : ℕ) → From b xs k s g ↔ Brought xs o g
-  from-brought xs s o l g =
-      ( elim [
-          | inl a ↦ inl (subst⁻¹ (λ (z : ℕ). g ∈ z) (l .1) (label-has g (handed-on k (node-at b k) s) .1 a))
-          | inr p ↦ inr (p .0, (subst⁻¹ (λ (z : ℕ). p .0 ∈ z) (l .0) (label-has (p .0) (parts (node-at b k) s) .1 (p .1 .0)), p .1 .1))
-        ]
-      , elim [
-          | inl m ↦ inl (label-has g (handed-on k (node-at b k) s) .0 (subst (λ (z : ℕ). g ∈ z) (l .1) m))
-          | inr p ↦ inr (p .0, (label-has (p .0) (parts (node-at b k) s) .0 (subst (λ (z : ℕ). p .0 ∈ z) (l .0) (p .1 .0)), p .1 .1))
-        ] )
+  from-brought xs s o l g = (
+    elim [
+      | inl a ↦ inl (subst⁻¹ (λ (z : ℕ). g ∈ z) (l .1) (label-has g (handed-on k (node-at b k) s) .1 a))
+      | inr p ↦ inr (p .0, (subst⁻¹ (λ (z : ℕ). p .0 ∈ z) (l .0) (label-has (p .0) (parts (node-at b k) s) .1 (p .1 .0)), p .1 .1))
+    ],
+    elim [
+      | inl m ↦ inl (label-has g (handed-on k (node-at b k) s) .0 (subst (λ (z : ℕ). g ∈ z) (l .1) m))
+      | inr p ↦ inr (p .0, (label-has (p .0) (parts (node-at b k) s) .0 (subst (λ (z : ℕ). p .0 ∈ z) (l .0) (p .1 .0)), p .1 .1))
+    ],
+  )
 
   -- up to k nothing changes when the mask of k is written
   from-set : (xs : List ℕ) (v f : ℕ) → f ≤ k → (s : Side) (g : ℕ) → From b (set xs k v) f s g ↔ From b xs f s g
   from-set xs v f le s g =
       let same : (h : ℕ) → Among h (parts (node-at b f) s) → getD (set xs k v) h 0 ≡ getD xs h 0 =
-            λ h a. let l : h < f = part-before b pr f s h a in getD-set-other xs k h v 0 (λ z. omega arith) in
-      ( elim [ inl a ↦ inl a | inr p ↦ inr (p .0, (p .1 .0, subst (λ (z : ℕ). g ∈ z) (same (p .0) (p .1 .0)) (p .1 .1))) ]
-      , elim [ inl a ↦ inl a | inr p ↦ inr (p .0, (p .1 .0, subst⁻¹ (λ (z : ℕ). g ∈ z) (same (p .0) (p .1 .0)) (p .1 .1))) ] )
+      λ h a. let l : h < f = part-before b pr f s h a in getD-set-other xs k h v 0 (λ z. omega arith) in (
+        elim [ inl a ↦ inl a | inr p ↦ inr (p .0, (p .1 .0, subst (λ (z : ℕ). g ∈ z) (same (p .0) (p .1 .0)) (p .1 .1))) ],
+        elim [ inl a ↦ inl a | inr p ↦ inr (p .0, (p .1 .0, subst⁻¹ (λ (z : ℕ). g ∈ z) (same (p .0) (p .1 .0)) (p .1 .1))) ],
+      )
 
   pub reach-step : (xs : List ℕ) (v : ℕ) → k < length xs → Covers xs on v → Reaches w b V xs k → Reaches w b V (set xs k v) (k + 1)
   reach-step xs v lt cov re f l s fit g fr = elim (ℕ-discrete f k) [
     | yes z ↦ subst⁻¹ (λ (y : ℕ). g ∈ getD (set xs k v) y 0) z
-          (subst⁻¹ (λ (y : ℕ). g ∈ y) (getD-set-same xs k v 0 lt)
-            (here (subst (λ (y : ℕ). Fits w b V y s) z fit) (from-set xs v k (omega arith) s g .0 (subst (λ (y : ℕ). From b (set xs k v) y s g) z fr))))
+        (subst⁻¹ (λ (y : ℕ). g ∈ y) (getD-set-same xs k v 0 lt)
+        (here (subst (λ (y : ℕ). Fits w b V y s) z fit) (from-set xs v k (omega arith) s g .0 (subst (λ (y : ℕ). From b (set xs k v) y s g) z fr))))
     | no ne ↦ subst⁻¹ (λ (y : ℕ). g ∈ y) (getD-set-other xs k f v 0 ne) (re f (omega (arith, l, ne)) s fit g (from-set xs v f (omega (arith, l)) s g .0 fr))
   ]
     where
@@ -207,8 +217,8 @@ module _ (w : Moment) (b : Contents) (pr : Proper b) (V : ℕ) (k : ℕ) (on : W
   pub must-step : (xs : List ℕ) (v : ℕ) → k < length xs → Shared xs on v → Musts w b V xs k → Musts w b V (set xs k v) (k + 1)
   must-step xs v lt sh mu f l s fit g m = elim (ℕ-discrete f k) [
     | yes z ↦ subst⁻¹ (λ (y : ℕ). From b (set xs k v) y s g) z
-          (from-set xs v k (omega arith) s g .1
-            (here (subst (λ (y : ℕ). Fits w b V y s) z fit) (subst (λ (y : ℕ). g ∈ y) (getD-set-same xs k v 0 lt) (subst (λ (y : ℕ). g ∈ getD (set xs k v) y 0) z m))))
+        (from-set xs v k (omega arith) s g .1
+        (here (subst (λ (y : ℕ). Fits w b V y s) z fit) (subst (λ (y : ℕ). g ∈ y) (getD-set-same xs k v 0 lt) (subst (λ (y : ℕ). g ∈ getD (set xs k v) y 0) z m))))
     | no ne ↦ from-set xs v f (omega (arith, l)) s g .1 (mu f (omega (arith, l, ne)) s fit g (subst (λ (y : ℕ). g ∈ y) (getD-set-other xs k f v 0 ne) m))
   ]
     where

@@ -53,9 +53,10 @@ filled-short P R xs ys n f (g, (p, h, out)) = (grown-like P R xs ys n (capacity 
 
 -- all is there already
 pub filled-there : (P : Label → Type 0) (xs : Cells) (n : ℕ) → Taken xs n → ((q : Label) → P q → In q (labels xs n)) → Filled P xs xs n (Some n)
-filled-there P xs n t all =
-    ( record { rises = omega arith; kept = λ q i. i; new = λ q i. inl i; taken = t; same-length = refl; rest-kept = refl }
-    , all )
+filled-there P xs n t all = (
+  record { rises = omega arith; kept = λ q i. i; new = λ q i. inl i; taken = t; same-length = refl; rest-kept = refl },
+  all,
+)
 
 drop-later : (xs ys : Cells) (n m : ℕ) → n ≤ m → drop n ys ≡ drop n xs → drop m ys ≡ drop m xs
 drop-later xs ys n m le e =
@@ -75,13 +76,15 @@ grown-twice P Q R xs ys zs a n m pr qr g h = record {
 
 pub filled-twice : (P Q R : Label → Type 0) (xs ys zs : Cells) (n m : ℕ) (r : Option ℕ) → ((p : Label) → P p → R p) → ((p : Label) → Q p → R p)
     → ((p : Label) → R p → P p ⊎ Q p) → Filled P xs ys n (Some m) → Filled Q ys zs m r → Filled R xs zs n r
-filled-twice P Q R xs ys zs n m (Some k) pr qr rpq (g, v) (h, u) =
-    ( grown-twice P Q R xs ys zs n m k pr qr g h
-    , λ p x. elim (rpq p x) [ inl y ↦ h .kept p (v p y) | inr y ↦ u p y ] )
+filled-twice P Q R xs ys zs n m (Some k) pr qr rpq (g, v) (h, u) = (
+  grown-twice P Q R xs ys zs n m k pr qr g h,
+  λ p x. elim (rpq p x) [ inl y ↦ h .kept p (v p y) | inr y ↦ u p y ],
+)
 filled-twice P Q R xs ys zs n m None pr qr rpq (g, v) (h, (p, q, out)) =
-    let e : capacity ys ≡ capacity xs = ap (λ (l : ℕ). min l (2 ^ 32)) (g .same-length) in
-    ( subst (Grown R xs zs n) e (grown-twice P Q R xs ys zs n m (capacity ys) pr qr g h)
-    , (p, qr p q, subst (λ (z : ℕ). In p (labels zs z) → ⊥) e out) )
+    let e : capacity ys ≡ capacity xs = ap (λ (l : ℕ). min l (2 ^ 32)) (g .same-length) in (
+      subst (Grown R xs zs n) e (grown-twice P Q R xs ys zs n m (capacity ys) pr qr g h),
+      (p, qr p q, subst (λ (z : ℕ). In p (labels zs z) → ⊥) e out),
+    )
 
 -- ENTERING ONE LABEL
 
@@ -112,7 +115,7 @@ module _ (r : NextLabel) where
   place-out (x ∷ xs) e (inr i) = elim (cases-bool (same-label x r)) [
     | inl is ↦
         (let here : _≡_ {A = Option ℕ} (Some 0) None = sym (cond-true (same-label x r) (Some 0) (further (place same-label r xs)) is) ∙ e in
-         let z : _≡_ {A = ℕ} 0 1 = cc in omega arith)
+        let z : _≡_ {A = ℕ} 0 1 = cc in omega arith)
     | inr isnt ↦ place-out xs (further-none (place same-label r xs) (sym (cond-false _ _ _ isnt) ∙ e)) i
   ]
 
@@ -132,32 +135,34 @@ module _ (cells after : Cells) (n q : ℕ) (t : Taken cells n) where
 
   pub enter-found : (k : ℕ) → Settled same-label label-turn cells n item (Found k) after → Filled (λ p. p ≡ q) cells after n (Some n)
   enter-found k s =
-      let same : labels after n ≡ labels cells n = ap (λ xs. map (λ (x : NextLabel). x .formulas) xs) (s .items-are) in
-      ( record {
+      let same : labels after n ≡ labels cells n = ap (λ xs. map (λ (x : NextLabel). x .formulas) xs) (s .items-are) in (
+        record {
           rises = omega arith;
           kept = λ p i. subst⁻¹ (In p) same i;
           new = λ p i. inl (subst (In p) same i);
           taken = record { room = subst⁻¹ (λ (l : ℕ). n ≤ min l (2 ^ 32)) (s .same-length) (t .room); indexed = s .indexed };
           same-length = s .same-length;
           rest-kept = s .rest-kept;
-        }
-      , λ p e. subst⁻¹ (In p) same (subst⁻¹ (λ (x : ℕ). In x (labels cells n)) e (place-in item (items cells n) k (slot-found _ k n (length cells) (s .slot-is)))) )
+        },
+        λ p e. subst⁻¹ (In p) same (subst⁻¹ (λ (x : ℕ). In x (labels cells n)) e (place-in item (items cells n) k (slot-found _ k n (length cells) (s .slot-is)))),
+      )
 
   pub enter-added : (k : ℕ) → Settled same-label label-turn cells n item (Added k) after → Filled (λ p. p ≡ q) cells after n (Some (n + 1))
   enter-added k s =
       let a = slot-added _ k n (length cells) (s .slot-is) in
       let more : labels after (n + 1) ≡ labels cells n ++ q ∷ [] = ap (λ xs. map (λ (x : NextLabel). x .formulas) xs) (s .items-are) ∙ map-append (items cells n) (item ∷ []) in
       let lt : n < length cells = ltb-true n (length cells) (and-parts (ltb n (length cells)) (ltb n (2 ^ 32)) (a .2) .0) in
-      let lt′ : n < 2 ^ 32 = ltb-true n (2 ^ 32) (and-parts (ltb n (length cells)) (ltb n (2 ^ 32)) (a .2) .1) in
-      ( record {
+      let lt′ : n < 2 ^ 32 = ltb-true n (2 ^ 32) (and-parts (ltb n (length cells)) (ltb n (2 ^ 32)) (a .2) .1) in (
+        record {
           rises = omega arith;
           kept = λ p i. subst⁻¹ (In p) more (in-append p (labels cells n) (q ∷ []) .1 (inl i));
           new = λ p i. elim (in-append p (labels cells n) (q ∷ []) .0 (subst (In p) more i)) [ inl x ↦ inl x | inr x ↦ inr (only p x) ];
           taken = record { room = subst⁻¹ (λ (l : ℕ). n + 1 ≤ min l (2 ^ 32)) (s .same-length) (omega (arith, lt, lt′)); indexed = s .indexed };
           same-length = s .same-length;
           rest-kept = s .rest-kept;
-        }
-      , λ p e. subst⁻¹ (In p) more (in-append p (labels cells n) (q ∷ []) .1 (inr (inl e))) )
+        },
+        λ p e. subst⁻¹ (In p) more (in-append p (labels cells n) (q ∷ []) .1 (inr (inl e))),
+      )
     where
       only : (p : ℕ) → In p (q ∷ []) → p ≡ q
       only p (inl e) = e
@@ -167,16 +172,17 @@ module _ (cells after : Cells) (n q : ℕ) (t : Taken cells n) where
   enter-full s =
       let a = slot-full _ n (length cells) (s .slot-is) in
       let e : n ≡ capacity cells = no-room cells n (t .room) (a .1) in
-      let same : labels after n ≡ labels cells n = ap (λ xs. map (λ (x : NextLabel). x .formulas) xs) (s .items-are) in
-      ( subst (Grown (λ p. p ≡ q) cells after n) e (record {
+      let same : labels after n ≡ labels cells n = ap (λ xs. map (λ (x : NextLabel). x .formulas) xs) (s .items-are) in (
+        subst (Grown (λ p. p ≡ q) cells after n) e (record {
           rises = omega arith;
           kept = λ p i. subst⁻¹ (In p) same i;
           new = λ p i. inl (subst (In p) same i);
           taken = record { room = subst⁻¹ (λ (l : ℕ). n ≤ min l (2 ^ 32)) (s .same-length) (t .room); indexed = s .indexed };
           same-length = s .same-length;
           rest-kept = s .rest-kept;
-        })
-      , (q, refl, λ i. place-out item (items cells n) (a .0) (subst (In q) same (subst⁻¹ (λ (z : ℕ). In q (labels after z)) e i))) )
+        }),
+        (q, refl, λ i. place-out item (items cells n) (a .0) (subst (In q) same (subst⁻¹ (λ (z : ℕ). In q (labels after z)) e i))),
+      )
 
   pub enter-broken : Settled same-label label-turn cells n item Broken after → ⊥
   enter-broken s = slot-broken _ n (length cells) (s .slot-is)
@@ -193,9 +199,10 @@ in-place (x ∷ xs) q (inr i) = let p = in-place xs q i in (suc (p .0), omega (a
 
 distinct-from : (xs : List ℕ) → ((j k : ℕ) → j < length xs → k < length xs → getD xs j 0 ≡ getD xs k 0 → j ≡ k) → Distinct xs
 distinct-from [] h = tt
-distinct-from (x ∷ xs) h =
-    ( (λ i. let p = in-place xs x i in let e = h 0 (suc (p .0)) (omega arith) (omega (arith, p .1)) (sym (p .2)) in omega (arith, e))
-    , distinct-from xs (λ j k lj lk e. let z = h (suc j) (suc k) (omega arith) (omega arith) e in omega (arith, z)) )
+distinct-from (x ∷ xs) h = (
+  (λ i. let p = in-place xs x i in let e = h 0 (suc (p .0)) (omega arith) (omega (arith, p .1)) (sym (p .2)) in omega (arith, e)),
+  distinct-from xs (λ j k lj lk e. let z = h (suc j) (suc k) (omega arith) (omega arith) e in omega (arith, z)),
+)
 
 symmetric : (x y : NextLabel) → same-label x y ≡ true → same-label y x ≡ true
 symmetric x y e = eq-eqb _ _ (sym (eqb-true _ _ e))
@@ -212,12 +219,12 @@ labels-apart cells n t =
     let size : length (labels cells n) ≡ n = length-map (items cells n) (λ x. x .formulas) ∙ length-items cells n (ix .within) in
     let d : NextLabel = record { formulas = 0 } in
     let at : (k : ℕ) → k < n → getD (labels cells n) k 0 ≡ getD (items cells n) k d .formulas =
-          λ k lt. getD-map (λ x. x .formulas) (items cells n) k d 0 (omega (arith, length-items cells n (ix .within))) in
+    λ k lt. getD-map (λ x. x .formulas) (items cells n) k d 0 (omega (arith, length-items cells n (ix .within))) in
     distinct-from (labels cells n) (λ j k lj lk e.
-      let a : j < n = omega (arith, size) in
-      let c : k < n = omega (arith, size) in
-      items-apart same-label label-turn symmetric transitive (λ x y s depth. same-turns x y depth (eqb-true _ _ s)) cells n d ix j k a c
-      (eq-eqb _ _ (sym (at j a) ∙ e ∙ at k c)))
+    let a : j < n = omega (arith, size) in
+    let c : k < n = omega (arith, size) in
+    items-apart same-label label-turn symmetric transitive (λ x y s depth. same-turns x y depth (eqb-true _ _ s)) cells n d ix j k a c
+    (eq-eqb _ _ (sym (at j a) ∙ e ∙ at k c)))
 
 -- THE LIST
 

@@ -40,29 +40,33 @@ upd-other κ k s f ne = go (ℕ-discrete f k)
 module _ (b : Contents) (κ : Choice) (k : ℕ) (s : Side) (e : κ k ≡ s) (S N S′ N′ : ℕ) (top : k ∈ S) (mv : Moves b k s S N S′ N′) where
   out : (f : ℕ) → Expansion b κ S′ f → Expansion b κ S f
   out f (member m) = elim (mv .opened f .0 m) [
-      inl p ↦ member (p .0)
-    | inr a ↦ part (member top) (subst⁻¹ (λ (x : Side). Among f (parts (node-at b k) x)) e a) ]
+    | inl p ↦ member (p .0)
+    | inr a ↦ part (member top) (subst⁻¹ (λ (x : Side). Among f (parts (node-at b k) x)) e a)
+  ]
   out g (part {f = f} sp a) = part (out f sp) a
 
   into : (f : ℕ) → Expansion b κ S f → (f ≡ k) ⊎ Expansion b κ S′ f
   into f (member m) = elim (ℕ-discrete f k) [ yes z ↦ inl z | no z ↦ inr (member (mv .opened f .1 (inl (m, z)))) ]
   into g (part {f = f} sp a) = elim (into f sp) [
-      inl z ↦ inr (member (mv .opened g .1 (inr
+    | inl z ↦ inr (member (mv .opened g .1 (inr
         (subst (λ (x : Side). Among g (parts (node-at b k) x)) e (subst (λ (x : ℕ). Among g (parts (node-at b x) (κ x))) z a)))))
-    | inr sp′ ↦ inr (part sp′ a) ]
+    | inr sp′ ↦ inr (part sp′ a)
+  ]
 
   handed-out : (g : ℕ) → (g ∈ N′) ⊎ Handed-on b κ S′ g → (g ∈ N) ⊎ Handed-on b κ S g
   handed-out g (inl m) = elim (mv .handed g .0 m) [
-      inl x ↦ inl x
-    | inr a ↦ inr (k, member top, subst⁻¹ (λ (x : Side). Among g (handed-on k (node-at b k) x)) e a) ]
+    | inl x ↦ inl x
+    | inr a ↦ inr (k, member top, subst⁻¹ (λ (x : Side). Among g (handed-on k (node-at b k) x)) e a)
+  ]
   handed-out g (inr p) = inr (p .0, out (p .0) (p .1), p .2)
 
   handed-into : (g : ℕ) → (g ∈ N) ⊎ Handed-on b κ S g → (g ∈ N′) ⊎ Handed-on b κ S′ g
   handed-into g (inl m) = inl (mv .handed g .1 (inl m))
   handed-into g (inr p) = elim (into (p .0) (p .1)) [
-      inl z ↦ inl (mv .handed g .1 (inr
+    | inl z ↦ inl (mv .handed g .1 (inr
         (subst (λ (x : Side). Among g (handed-on k (node-at b k) x)) e (subst (λ (x : ℕ). Among g (handed-on x (node-at b x) (κ x))) z (p .2)))))
-    | inr sp ↦ inr (p .0, sp, p .2) ]
+    | inr sp ↦ inr (p .0, sp, p .2)
+  ]
 
 -- an expansion below k does not see the side of k
 expansion-like : (b : Contents) → Proper b → (κ κ′ : Choice) (k S : ℕ) → ((f : ℕ) → (f ≡ k → ⊥) → κ f ≡ κ′ f) → Under S k
@@ -76,19 +80,23 @@ expansion-like b pr κ κ′ k S ag un g (part {f = f} sp a) =
 module _ (w : Moment) (b : Contents) (pr : Proper b) where
   pub under-moves : (k : ℕ) (s : Side) (S N S′ N′ : ℕ) → Under S (k + 1) → Moves b k s S N S′ N′ → Under S′ k
   under-moves k s S N S′ N′ un mv f m = elim (mv .opened f .0 m) [
-      inl p ↦ (let l = un f (p .0) in let ne = p .1 in omega (arith, l, ne))
-    | inr a ↦ part-before b pr k s f a ]
+    | inl p ↦ (let l = un f (p .0) in let ne = p .1 in omega (arith, l, ne))
+    | inr a ↦ part-before b pr k s f a
+  ]
 
   pub hands-down : (k : ℕ) (s : Side) (S N S′ N′ q : ℕ) (h : Hands w b S N q) → h .choice k ≡ s → k ∈ S → Moves b k s S N S′ N′
       → Admits w (node-at b k) s × Hands w b S′ N′ q
-  hands-down k s S N S′ N′ q h e top mv =
-      ( subst (Admits w (node-at b k)) e (h .sound k (member top))
-      , record
-          { choice = h .choice
-          ; sound = λ f sp. h .sound f (out b (h .choice) k s e S N S′ N′ top mv f sp)
-          ; label-is = λ g. ( (λ m. handed-into b (h .choice) k s e S N S′ N′ top mv g (h .label-is g .0 m))
-                            , (λ x. h .label-is g .1 (handed-out b (h .choice) k s e S N S′ N′ top mv g x)) )
-          } )
+  hands-down k s S N S′ N′ q h e top mv = (
+    subst (Admits w (node-at b k)) e (h .sound k (member top)),
+    record {
+      choice = h .choice;
+      sound = λ f sp. h .sound f (out b (h .choice) k s e S N S′ N′ top mv f sp);
+      label-is = λ g. (
+        (λ m. handed-into b (h .choice) k s e S N S′ N′ top mv g (h .label-is g .0 m)),
+        (λ x. h .label-is g .1 (handed-out b (h .choice) k s e S N S′ N′ top mv g x)),
+      );
+    },
+  )
 
   pub hands-up : (k : ℕ) (s : Side) (S N S′ N′ q : ℕ) → Under S (k + 1) → k ∈ S → Moves b k s S N S′ N′ → Admits w (node-at b k) s
       → Hands w b S′ N′ q → Hands w b S N q
@@ -102,31 +110,43 @@ module _ (w : Moment) (b : Contents) (pr : Proper b) where
       let there : (f : ℕ) → Expansion b κ S′ f → (f < k) × Expansion b κ′ S′ f = expansion-like b pr κ κ′ k S′ ag un′ in
       let back : (f : ℕ) → Expansion b κ′ S′ f → (f < k) × Expansion b κ S′ f = expansion-like b pr κ′ κ k S′ ag′ un′ in
       let sides : (g f : ℕ) → f < k → Among g (handed-on f (node-at b f) (κ f)) → Among g (handed-on f (node-at b f) (κ′ f)) =
-            λ g f l. subst (λ (x : Side). Among g (handed-on f (node-at b f) x)) (ag f (λ z. omega arith)) in
+      λ g f l. subst (λ (x : Side). Among g (handed-on f (node-at b f) x)) (ag f (λ z. omega arith)) in
       let sides′ : (g f : ℕ) → f < k → Among g (handed-on f (node-at b f) (κ′ f)) → Among g (handed-on f (node-at b f) (κ f)) =
-            λ g f l. subst (λ (x : Side). Among g (handed-on f (node-at b f) x)) (ag′ f (λ z. omega arith)) in
-      record
-        { choice = κ′
-        ; sound = λ f sp. elim (into b κ′ k s here S N S′ N′ top mv f sp) [
-              inl z ↦ subst⁻¹ (λ (x : ℕ). Admits w (node-at b x) (κ′ x)) z (subst⁻¹ (Admits w (node-at b k)) here ok)
-            | inr sp′ ↦ (let r = back f sp′ in subst (Admits w (node-at b f)) (ag f (λ z. omega (arith, r .0))) (h .sound f (r .1))) ]
-        ; label-is = λ g.
-            ( (λ m. handed-out b κ′ k s here S N S′ N′ top mv g (elim (h .label-is g .0 m) [
-                  inl x ↦ inl x
-                | inr p ↦ (let r = there (p .0) (p .1) in inr (p .0, r .1, sides g (p .0) (r .0) (p .2))) ]))
-            , (λ x. h .label-is g .1 (elim (handed-into b κ′ k s here S N S′ N′ top mv g x) [
-                  inl m ↦ inl m
-                | inr p ↦ (let r = back (p .0) (p .1) in inr (p .0, r .1, sides′ g (p .0) (r .0) (p .2))) ])) )
-        }
+      λ g f l. subst (λ (x : Side). Among g (handed-on f (node-at b f) x)) (ag′ f (λ z. omega arith)) in
+      record {
+        choice = κ′;
+        sound = λ f sp. elim (into b κ′ k s here S N S′ N′ top mv f sp) [
+          | inl z ↦ subst⁻¹ (λ (x : ℕ). Admits w (node-at b x) (κ′ x)) z (subst⁻¹ (Admits w (node-at b k)) here ok)
+          | inr sp′ ↦ (let r = back f sp′ in subst (Admits w (node-at b f)) (ag f (λ z. omega (arith, r .0))) (h .sound f (r .1)))
+        ];
+        label-is = λ g. (
+          (λ m. handed-out b κ′ k s here S N S′ N′ top mv g (elim (h .label-is g .0 m) [
+            | inl x ↦ inl x
+            | inr p ↦ (let r = there (p .0) (p .1) in inr (p .0, r .1, sides g (p .0) (r .0) (p .2)))
+          ])),
+          (λ x. h .label-is g .1 (elim (handed-into b κ′ k s here S N S′ N′ top mv g x) [
+            | inl m ↦ inl m
+            | inr p ↦ (let r = back (p .0) (p .1) in inr (p .0, r .1, sides′ g (p .0) (r .0) (p .2)))
+          ])),
+        );
+      }
 
   -- nothing is open
   pub hands-none : (S N q : ℕ) → Under S 0 → Hands w b S N q ↔ (q ≡ N)
-  hands-none S N q un =
-      ( (λ h. same-members q N (λ g. ( (λ m. elim (h .label-is g .0 m) [ inl x ↦ x | inr p ↦ absurd (none (h .choice) (p .0) (p .1)) ])
-                                     , (λ m. h .label-is g .1 (inl m)) )))
-      , (λ e. record { choice = λ f. one; sound = λ f sp. absurd (none (λ x. one) f sp)
-                     ; label-is = λ g. ( (λ m. inl (subst (λ (x : ℕ). g ∈ x) e m))
-                                       , elim [ inl m ↦ subst⁻¹ (λ (x : ℕ). g ∈ x) e m | inr p ↦ absurd (none (λ x. one) (p .0) (p .1)) ] ) }) )
+  hands-none S N q un = (
+    (λ h. same-members q N (λ g. (
+      (λ m. elim (h .label-is g .0 m) [ inl x ↦ x | inr p ↦ absurd (none (h .choice) (p .0) (p .1)) ]),
+      (λ m. h .label-is g .1 (inl m)),
+    ))),
+    (λ e. record {
+      choice = λ f. one;
+      sound = λ f sp. absurd (none (λ x. one) f sp);
+      label-is = λ g. (
+        (λ m. inl (subst (λ (x : ℕ). g ∈ x) e m)),
+        elim [ inl m ↦ subst⁻¹ (λ (x : ℕ). g ∈ x) e m | inr p ↦ absurd (none (λ x. one) (p .0) (p .1)) ],
+      );
+    }),
+  )
     where
       none : (κ : Choice) (f : ℕ) → Expansion b κ S f → ⊥
       none κ f (member m) = omega (arith, un f m)
@@ -134,7 +154,7 @@ module _ (w : Moment) (b : Contents) (pr : Proper b) where
 
   -- from a label, with nothing handed on yet
   pub hands-start : (L q : ℕ) → Hands w b L 0 q ↔ Hands-on w b L q
-  hands-start L q =
-      ( (λ h. (h .choice, (h .sound, λ g. ((λ m. elim (h .label-is g .0 m) [ inl z ↦ absurd (zero-has g z) | inr p ↦ p ]), (λ p. h .label-is g .1 (inr p))))))
-      , (λ p. record { choice = p .0; sound = p .1 .0; label-is = λ g. ((λ m. inr (p .1 .1 g .0 m)), elim [ inl z ↦ absurd (zero-has g z) | inr x ↦ p .1 .1 g .1 x ]) }) )
-
+  hands-start L q = (
+    (λ h. (h .choice, (h .sound, λ g. ((λ m. elim (h .label-is g .0 m) [ inl z ↦ absurd (zero-has g z) | inr p ↦ p ]), (λ p. h .label-is g .1 (inr p)))))),
+    (λ p. record { choice = p .0; sound = p .1 .0; label-is = λ g. ((λ m. inr (p .1 .1 g .0 m)), elim [ inl z ↦ absurd (zero-has g z) | inr x ↦ p .1 .1 g .1 x ]) }),
+  )

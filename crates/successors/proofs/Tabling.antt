@@ -41,15 +41,15 @@ module _ (w : Moment) (b : Contents) where
   kept-put ts us cells n S N (inl e) all kp = subst⁻¹ (λ (l : List State). Kept w b l cells n) e kp
   kept-put ts us cells n S N (inr (p, e)) all kp =
       subst⁻¹ (λ (l : List State). Kept w b l cells n) e (λ j d lt.
-        let len : length (set ts p (state S N)) ≡ length ts = length-set ts p (state S N) in
-        elim (ℕ-discrete j p) [
-          | yes z ↦
-              (let lt′ : p < length ts = omega arith in
-               let here : getD (set ts p (state S N)) j d ≡ state S N =
-                     ap (λ (x : ℕ). getD (set ts p (state S N)) x d) z ∙ getD-set-same ts p (state S N) d lt′ in
-               subst⁻¹ (Done w b cells n) here (λ u. all))
-          | no ne ↦ subst⁻¹ (Done w b cells n) (getD-set-other ts p j (state S N) d ne) (kp j d (omega arith))
-        ])
+      let len : length (set ts p (state S N)) ≡ length ts = length-set ts p (state S N) in
+      elim (ℕ-discrete j p) [
+        | yes z ↦
+            (let lt′ : p < length ts = omega arith in
+            let here : getD (set ts p (state S N)) j d ≡ state S N =
+            ap (λ (x : ℕ). getD (set ts p (state S N)) x d) z ∙ getD-set-same ts p (state S N) d lt′ in
+            subst⁻¹ (Done w b cells n) here (λ u. all))
+        | no ne ↦ subst⁻¹ (Done w b cells n) (getD-set-other ts p j (state S N) d ne) (kp j d (omega arith))
+      ])
 
   -- a state whose labels have all been entered is put into it
   pub kept-filled : (ts us : List State) (xs ys : List (Cell NextLabel)) (n m S N : ℕ) → Puts ts us (state S N)

@@ -21,7 +21,6 @@ use super::ways::top;
 use super::ways::ways_at;
 use intern::Cell;
 use ltlf::Book;
-use viability::Offer;
 use viability::inside;
 use viability::known_part;
 use viability::viable;
@@ -43,7 +42,14 @@ struct Sight<'a> {
 ///
 /// A member that can hand on only what the next label has is dropped; what a way hands on whatever is chosen goes into
 /// the next label at once; a state that is done is passed over.
-fn expand(sight: Sight, members: u64, next: u64, cells: &mut [Cell<NextLabel>], filled: usize, table: &mut [State]) -> Option<usize>
+fn expand(
+    sight: Sight,
+    members: u64,
+    next: u64,
+    cells: &mut [Cell<NextLabel>],
+    filled: usize,
+    table: &mut [State],
+) -> Option<usize>
     requires { ⌜ Guided (moment (sight .truth) (sight .last)) (book-contents (now (sight .book))) (sight .able) (now (sight .ways)) (now (sight .reach)) (now (sight .must)) ⌝ ∗ ⌜ Inside members (sight .able) ⌝ ∗ ⌜ Taken (now cells) filled ⌝ ∗ ⌜ Kept (moment (sight .truth) (sight .last)) (book-contents (now (sight .book))) (now table) (now cells) filled ⌝ }
     ensures fills { λ r. ⌜ Filled (Hands (moment (sight .entry .truth) (sight .entry .last)) (book-contents (now (sight .entry .book))) members next) (now (cells .entry)) (now (cells .exit)) filled r ⌝ }
     ensures keeps { λ r. ⌜ Keeps (moment (sight .entry .truth) (sight .entry .last)) (book-contents (now (sight .entry .book))) (now (table .exit)) (now (cells .exit)) r ⌝ }
@@ -57,18 +63,21 @@ fn expand(sight: Sight, members: u64, next: u64, cells: &mut [Cell<NextLabel>], 
         return expand(sight, rest, next, cells, filled, table);
     }
     let on = ways_at(sight.ways, number);
+    let opened = rest | on.first.parts;
+    let handed = next | on.first.handed;
     if !on.forked {
-        return expand(sight, rest | on.first.parts, next | on.first.handed, cells, filled, table);
+        return expand(sight, opened, handed, cells, filled, table);
     }
     if seen(table, number, members, next) {
         return Some(filled);
     }
     let by_first = gathered(sight.must, on.first.parts);
-    let Some(more) = expand(sight, rest | on.first.parts, next | on.first.handed | by_first, cells, filled, table) else {
+    let Some(more) = expand(sight, opened, handed | by_first, cells, filled, table) else {
         return None;
     };
     let by_second = gathered(sight.must, on.second.parts);
-    let Some(all) = expand(sight, rest | on.second.parts, next | on.second.handed | by_second, cells, more, table) else {
+    let forced = next | on.second.handed | by_second;
+    let Some(all) = expand(sight, rest | on.second.parts, forced, cells, more, table) else {
         return None;
     };
     remember(table, number, members, next);
@@ -76,20 +85,38 @@ fn expand(sight: Sight, members: u64, next: u64, cells: &mut [Cell<NextLabel>], 
 }
 
 /// Expands with a table of 4,096 states.
-fn expand_forked(sight: Sight, members: u64, next: u64, cells: &mut [Cell<NextLabel>]) -> Option<usize>
+fn expand_forked(
+    sight: Sight,
+    members: u64,
+    next: u64,
+    cells: &mut [Cell<NextLabel>],
+) -> Option<usize>
     requires { ⌜ Guided (moment (sight .truth) (sight .last)) (book-contents (now (sight .book))) (sight .able) (now (sight .ways)) (now (sight .reach)) (now (sight .must)) ⌝ ∗ ⌜ Inside members (sight .able) ⌝ }
     ensures { λ r. ⌜ Filled (Hands (moment (sight .entry .truth) (sight .entry .last)) (book-contents (now (sight .entry .book))) members next) (now (cells .entry)) (now (cells .exit)) 0 r ⌝ }
 {
-    let mut table = [State { used: false, members: 0, next: 0 }; 4096];
+    let mut table = [State {
+        used: false,
+        members: 0,
+        next: 0,
+    }; 4096];
     expand(sight, members, next, cells, 0, &mut table)
 }
 
 /// Expands with next to no table, where few formulas fork.
-fn expand_plain(sight: Sight, members: u64, next: u64, cells: &mut [Cell<NextLabel>]) -> Option<usize>
+fn expand_plain(
+    sight: Sight,
+    members: u64,
+    next: u64,
+    cells: &mut [Cell<NextLabel>],
+) -> Option<usize>
     requires { ⌜ Guided (moment (sight .truth) (sight .last)) (book-contents (now (sight .book))) (sight .able) (now (sight .ways)) (now (sight .reach)) (now (sight .must)) ⌝ ∗ ⌜ Inside members (sight .able) ⌝ }
     ensures { λ r. ⌜ Filled (Hands (moment (sight .entry .truth) (sight .entry .last)) (book-contents (now (sight .entry .book))) members next) (now (cells .entry)) (now (cells .exit)) 0 r ⌝ }
 {
-    let mut table = [State { used: false, members: 0, next: 0 }; 1];
+    let mut table = [State {
+        used: false,
+        members: 0,
+        next: 0,
+    }; 1];
     expand(sight, members, next, cells, 0, &mut table)
 }
 
@@ -97,21 +124,37 @@ fn expand_plain(sight: Sight, members: u64, next: u64, cells: &mut [Cell<NextLab
 /// no other, where the atoms of `truth` hold and the visit is the last or not; returns their number.
 ///
 /// Formulas that the book does not have are passed over. None where the cells are full and another label is left.
-pub fn next_labels(book: &Book, label: u64, truth: u32, last: bool, cells: &mut [Cell<NextLabel>]) -> Option<usize>
+pub fn next_labels(
+    book: &Book,
+    label: u64,
+    truth: u32,
+    last: bool,
+    cells: &mut [Cell<NextLabel>],
+) -> Option<usize>
     ensures { λ r. ⌜ Lists-next (book-contents (now (book .entry))) truth last label (now (cells .entry)) (now (cells .exit)) r ⌝ }
 {
-    let able = viable(book, truth, last);
     let members = known_part(book, label);
+    if members == 0 {
+        return enter(cells, 0, 0);
+    }
+    let able = viable(book, truth, last);
     if !inside(members, able) {
         return Some(0);
     }
-    let none = Offer { admitted: false, parts: 0, handed: 0 };
-    let mut ways = [Ways { first: none, second: none, forked: false }; 64];
+    let mut ways = [Ways::none(); 64];
     let mut reach = [0; 64];
     let mut must = [0; 64];
     let forks = fill(book, truth, last, able, &mut ways, &mut reach, &mut must);
     let given = gathered(&must, members);
-    let sight = Sight { book, truth, last, able, ways: &ways, reach: &reach, must: &must };
+    let sight = Sight {
+        book,
+        truth,
+        last,
+        able,
+        ways: &ways,
+        reach: &reach,
+        must: &must,
+    };
     if forks > 6 {
         return expand_forked(sight, members, given, cells);
     }

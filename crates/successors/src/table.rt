@@ -18,7 +18,8 @@ fn place(number: u8, members: u64, next: u64, size: usize) -> usize
     requires { ⌜ 0 < size ⌝ }
     ensures { λ r. ⌜ r < size ⌝ }
 {
-    let mixed = (members.wrapping_mul(0x9E3779B97F4A7C15) ^ next.wrapping_mul(0xC2B2AE3D27D4EB4F)).wrapping_mul(0x165667B19E3779F9);
+    let mixed = (members.wrapping_mul(0x9E3779B97F4A7C15)
+        ^ next.wrapping_mul(0xC2B2AE3D27D4EB4F)).wrapping_mul(0x165667B19E3779F9);
     (number as usize * 64 + (mixed >> 40) as usize % 64) % size
 }
 
@@ -29,7 +30,12 @@ pub(crate) fn seen(table: &[State], number: u8, members: u64, next: u64) -> bool
     if table.len() == 0 {
         return false;
     }
-    table[place(number, members, next, table.len())] == State { used: true, members, next }
+    table[place(number, members, next, table.len())]
+        == State {
+            used: true,
+            members,
+            next,
+        }
 }
 
 /// Remembers a state, in place of another where its place is taken.
@@ -38,6 +44,10 @@ pub(crate) fn remember(table: &mut [State], number: u8, members: u64, next: u64)
 {
     if table.len() > 0 {
         let at = place(number, members, next, table.len());
-        table[at] = State { used: true, members, next };
+        table[at] = State {
+            used: true,
+            members,
+            next,
+        };
     }
 }

@@ -26,6 +26,22 @@ pub struct Ways {
     pub(crate) forked: bool,
 }
 
+impl Ways {
+    /// No way on yet.
+    pub(crate) fn none() -> Ways {
+        let nothing = Offer {
+            admitted: false,
+            parts: 0,
+            handed: 0,
+        };
+        Ways {
+            first: nothing,
+            second: nothing,
+            forked: false,
+        }
+    }
+}
+
 /// The greatest formula of a label.
 pub(crate) fn top(label: u64) -> u8
     requires { ⌜ 0 < label ⌝ }
@@ -72,15 +88,31 @@ fn ways_on(book: &Book, number: u8, truth: u32, last: bool, able: u64) -> Ways
     let one = offer_of(book, number, Side::One, truth, last);
     let other = offer_of(book, number, Side::Other, truth, last);
     if !passes(one, able) {
-        return Ways { first: other, second: other, forked: false };
+        return Ways {
+            first: other,
+            second: other,
+            forked: false,
+        };
     }
     if alike(one, other) {
-        return Ways { first: one, second: one, forked: false };
+        return Ways {
+            first: one,
+            second: one,
+            forked: false,
+        };
     }
     if !passes(other, able) {
-        return Ways { first: one, second: one, forked: false };
+        return Ways {
+            first: one,
+            second: one,
+            forked: false,
+        };
     }
-    Ways { first: one, second: other, forked: true }
+    Ways {
+        first: one,
+        second: other,
+        forked: true,
+    }
 }
 
 /// The ways on that stand at a number.
@@ -132,7 +164,15 @@ fn counted(forks: u8, forked: bool) -> u8
 /// Fills in the ways on from each viable formula, what they can hand on, and what they all do.
 ///
 /// Returns how many of them fork.
-pub(crate) fn fill(book: &Book, truth: u32, last: bool, able: u64, ways: &mut [Ways], reach: &mut [u64], must: &mut [u64]) -> u8
+pub(crate) fn fill(
+    book: &Book,
+    truth: u32,
+    last: bool,
+    able: u64,
+    ways: &mut [Ways],
+    reach: &mut [u64],
+    must: &mut [u64],
+) -> u8
     requires { ⌜ Viable (moment truth last) (book-contents (now book)) able ⌝ ∗ ⌜ length (now ways) ≡ 64 ⌝ ∗ ⌜ length (now reach) ≡ 64 ⌝ ∗ ⌜ length (now must) ≡ 64 ⌝ }
     ensures ways { λ _. ⌜ Ways-below (moment truth last) (book-contents (now (book .entry))) able (now (ways .exit)) (length (book-contents (now (book .entry)) .nodes)) ⌝ }
     ensures reaches { λ _. ⌜ Reaches (moment truth last) (book-contents (now (book .entry))) able (now (reach .exit)) (length (book-contents (now (book .entry)) .nodes)) ⌝ }

@@ -1,10 +1,13 @@
-// What a theory is: codes, atoms, and the facts, which say where an atom holds. Rests on `refusal`.
+// What a theory is: codes, atoms, and the facts, which say where an atom holds. Rests on `refusal` and `writer`.
 // Promises: each call of every theory answers by its meaning, refusals included.
 mod next;
+mod print;
 
 ghost use mathlib.Core.Path.{_≡_};
 ghost use Rattle.theory.specs.Meaning.{within, Meaning, InRange, answer};
 pub use next::Next;
+pub use print::Printable;
+pub use print::put_item;
 use refusal::Refusal;
 
 /// Codes 0 to M - 1, atoms 0 to A - 1, and the facts: which atom holds at which code before what comes next.

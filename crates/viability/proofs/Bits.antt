@@ -33,9 +33,9 @@ in-below L n i lt h =
     ⊎-elim
     (λ l. l)
     (λ (ge : n ≤ i).
-      let up : L < 2 ^ i = lt-of-lt-of-le lt (pow-mono ge) in
-      let z : L / 2 ^ i ≡ 0 = div-eq-of-lt up in
-      absurd (omega (arith, h, z)))
+    let up : L < 2 ^ i = lt-of-lt-of-le lt (pow-mono ge) in
+    let z : L / 2 ^ i ≡ 0 = div-eq-of-lt up in
+    absurd (omega (arith, h, z)))
     (cases-lt i n)
 
 pub in-or : (a c i : ℕ) → i ∈ bitOr a c → (i ∈ a) ⊎ (i ∈ c)
@@ -54,23 +54,27 @@ pub with-has : (L k : ℕ) → k ∈ bitOr L (2 ^ k)
 with-has L k = in-or-right L (2 ^ k) k (bit-has k k .1 refl)
 
 pub inside-or : (a c : ℕ) → (bitOr a c ≡ c) ↔ Inside a c
-inside-or a c =
-    ( (λ e f m. subst (λ (x : ℕ). f ∈ x) e (in-or-left a c f m))
-    , (λ h. same-members (bitOr a c) c (λ f. ((λ m. ⊎-elim (h f) (λ x. x) (in-or a c f m)), in-or-right a c f))) )
+inside-or a c = (
+  (λ e f m. subst (λ (x : ℕ). f ∈ x) e (in-or-left a c f m)),
+  (λ h. same-members (bitOr a c) c (λ f. ((λ m. ⊎-elim (h f) (λ x. x) (in-or a c f m)), in-or-right a c f))),
+)
 
 pub label-has : (f : ℕ) (gs : List ℕ) → (f ∈ label-of gs) ↔ Among f gs
 label-has f [] = ((λ m. absurd (zero-has f m)), (λ z. absurd z))
-label-has f (g ∷ gs) =
-    ( (λ m. elim (in-with (label-of gs) g f m) [ inl x ↦ inr (label-has f gs .0 x) | inr e ↦ inl e ])
-    , elim [
-          inl e ↦ subst⁻¹ (λ (x : ℕ). x ∈ bitOr (label-of gs) (2 ^ g)) e (with-has (label-of gs) g)
-        | inr a ↦ in-or-left (label-of gs) (2 ^ g) f (label-has f gs .1 a) ] )
+label-has f (g ∷ gs) = (
+  (λ m. elim (in-with (label-of gs) g f m) [ inl x ↦ inr (label-has f gs .0 x) | inr e ↦ inl e ]),
+  elim [
+    | inl e ↦ subst⁻¹ (λ (x : ℕ). x ∈ bitOr (label-of gs) (2 ^ g)) e (with-has (label-of gs) g)
+    | inr a ↦ in-or-left (label-of gs) (2 ^ g) f (label-has f gs .1 a)
+  ],
+)
 
 -- a label's members are in V exactly if the formulas it was made of are
 pub inside-parts : (ps : List ℕ) (m V : ℕ) → m ≡ label-of ps → Inside m V ↔ ((g : ℕ) → Among g ps → g ∈ V)
-inside-parts ps m V e =
-    ( (λ h g a. h g (subst⁻¹ (λ (x : ℕ). g ∈ x) e (label-has g ps .1 a)))
-    , (λ h f x. h f (label-has f ps .0 (subst (λ (y : ℕ). f ∈ y) e x))) )
+inside-parts ps m V e = (
+  (λ h g a. h g (subst⁻¹ (λ (x : ℕ). g ∈ x) e (label-has g ps .1 a))),
+  (λ h f x. h f (label-has f ps .0 (subst (λ (y : ℕ). f ∈ y) e x))),
+)
 
 xor-bits : (x y : ℕ) → x < 2 → y < 2 → (bitXor x y ≡ 1) ↔ (((x ≡ 1) × (y ≡ 0)) ⊎ ((x ≡ 0) × (y ≡ 1)))
 xor-bits zero zero h k = ((λ e. absurd (omega arith)), elim [ inl e ↦ absurd (omega (arith, e .0)) | inr e ↦ absurd (omega (arith, e .1)) ])
@@ -88,12 +92,14 @@ pub without-xor : (S k : ℕ) → k ∈ S → Without S k (bitXor S (2 ^ k))
 unfolding _∈_
 without-xor S k top f =
     let e : bitXor S (2 ^ k) / 2 ^ f % 2 ≡ bitXor (S / 2 ^ f % 2) (2 ^ k / 2 ^ f % 2) =
-          ap (λ (x : ℕ). x % 2) (xor-shr S (2 ^ k) f) ∙ xor-mod (S / 2 ^ f) (2 ^ k / 2 ^ f) 1 in
-    let o = xor-bits (S / 2 ^ f % 2) (2 ^ k / 2 ^ f % 2) (omega arith) (omega arith) in
-    ( (λ m. elim (o .0 (sym e ∙ m)) [
-          inl p ↦ (p .0, λ z. absurd (omega (arith, p .1, bit-has f k .1 z)))
-        | inr p ↦ absurd (omega (arith, p .0, subst⁻¹ (λ (x : ℕ). x ∈ S) (bit-has f k .0 (p .1)) top)) ])
-    , (λ p. e ∙ o .1 (inl (p .0, ⊎-elim (λ z. z) (λ (m : 2 ^ k / 2 ^ f % 2 ≡ 1). absurd (p .1 (bit-has f k .0 m))) (bit-cases (2 ^ k) f)))) )
+    ap (λ (x : ℕ). x % 2) (xor-shr S (2 ^ k) f) ∙ xor-mod (S / 2 ^ f) (2 ^ k / 2 ^ f) 1 in
+    let o = xor-bits (S / 2 ^ f % 2) (2 ^ k / 2 ^ f % 2) (omega arith) (omega arith) in (
+      (λ m. elim (o .0 (sym e ∙ m)) [
+        | inl p ↦ (p .0, λ z. absurd (omega (arith, p .1, bit-has f k .1 z)))
+        | inr p ↦ absurd (omega (arith, p .0, subst⁻¹ (λ (x : ℕ). x ∈ S) (bit-has f k .0 (p .1)) top))
+      ]),
+      (λ p. e ∙ o .1 (inl (p .0, ⊎-elim (λ z. z) (λ (m : 2 ^ k / 2 ^ f % 2 ≡ 1). absurd (p .1 (bit-has f k .0 m))) (bit-cases (2 ^ k) f)))),
+    )
 
 -- taking off what is not there
 pub without-none : (S k : ℕ) → (k ∈ S → ⊥) → Without S k S

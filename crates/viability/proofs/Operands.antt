@@ -39,6 +39,6 @@ read-in {X} xs k d x given =
     ⊎-elim
     (λ (h : k < length xs). (h, (let e : _≡_ {A = Result X Refusal} (Ok x) (Ok (getD xs k d)) = given ∙ cond-true _ _ _ (lt-ltb k (length xs) h) in cc)))
     (λ (h : length xs ≤ k).
-      let e : _≡_ {A = Result X Refusal} (Ok x) (Err Unknown) = given ∙ cond-false _ _ _ (le-ltb k (length xs) h) in
-      let z : _≡_ {A = ℕ} 0 1 = cc in absurd (omega arith))
+    let e : _≡_ {A = Result X Refusal} (Ok x) (Err Unknown) = given ∙ cond-false _ _ _ (le-ltb k (length xs) h) in
+    let z : _≡_ {A = ℕ} 0 1 = cc in absurd (omega arith))
     (cases-lt k (length xs))

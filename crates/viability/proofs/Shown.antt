@@ -44,8 +44,9 @@ module _ (w w′ : Moment) (atoms truth : ℕ) (last : Bool) (sh : Shows w atoms
 pub sound-same : (b : Contents) → Proper b → (w w′ : Moment) (truth : ℕ) (last : Bool) → Shows w (b .atoms) truth last → Shows w′ (b .atoms) truth last
     → (κ : Choice) (L : Label) → Sound-at w b κ L → Sound-at w′ b κ L
 sound-same b pr w w′ truth last sh sh′ κ L so f x = elim (decLt f (length (b .nodes))) [
-    yes h ↦ admits-same w w′ (b .atoms) truth last sh sh′ f (node-at b f) (κ f) (pr .before f h) (so f x)
-  | no h ↦ subst (λ (m : Node). Admits w′ m (κ f)) (sym (getD-past (b .nodes) f True (omega arith))) tt ]
+  | yes h ↦ admits-same w w′ (b .atoms) truth last sh sh′ f (node-at b f) (κ f) (pr .before f h) (so f x)
+  | no h ↦ subst (λ (m : Node). Admits w′ m (κ f)) (sym (getD-past (b .nodes) f True (omega arith))) tt
+]
 
 pub shows-moment : (atoms truth : ℕ) (last : Bool) → Shows (moment truth last) atoms truth last
 shows-moment atoms truth true = record { facts = λ a h. refl; end = refl }
@@ -54,11 +55,13 @@ shows-moment atoms truth false = record { facts = λ a h. refl; end = refl }
 -- what is so at the mask's own moment is so at every moment that the mask shows
 module _ (b : Contents) (pr : Proper b) (truth : ℕ) (last : Bool) (w : Moment) (sh : Shows w (b .atoms) truth last) (L : Label) where
   pub sound-shown : Some-sound (moment truth last) b L ↔ Some-sound w b L
-  sound-shown =
-      ( (λ p. (p .0, sound-same b pr (moment truth last) w truth last (shows-moment (b .atoms) truth last) sh (p .0) L (p .1)))
-      , (λ p. (p .0, sound-same b pr w (moment truth last) truth last sh (shows-moment (b .atoms) truth last) (p .0) L (p .1))) )
+  sound-shown = (
+    (λ p. (p .0, sound-same b pr (moment truth last) w truth last (shows-moment (b .atoms) truth last) sh (p .0) L (p .1))),
+    (λ p. (p .0, sound-same b pr w (moment truth last) truth last sh (shows-moment (b .atoms) truth last) (p .0) L (p .1))),
+  )
 
   pub hands-shown : (L′ : Label) → Hands-on (moment truth last) b L L′ ↔ Hands-on w b L L′
-  hands-shown L′ =
-      ( (λ p. (p .0, (sound-same b pr (moment truth last) w truth last (shows-moment (b .atoms) truth last) sh (p .0) L (p .1 .0), p .1 .1)))
-      , (λ p. (p .0, (sound-same b pr w (moment truth last) truth last sh (shows-moment (b .atoms) truth last) (p .0) L (p .1 .0), p .1 .1))) )
+  hands-shown L′ = (
+    (λ p. (p .0, (sound-same b pr (moment truth last) w truth last (shows-moment (b .atoms) truth last) sh (p .0) L (p .1 .0), p .1 .1))),
+    (λ p. (p .0, (sound-same b pr w (moment truth last) truth last sh (shows-moment (b .atoms) truth last) (p .0) L (p .1 .0), p .1 .1))),
+  )

@@ -25,8 +25,17 @@ module _ (w : Moment) (b : Contents) (pr : Proper b) (V : ℕ) (vi : Viable w b 
   pub sound-inside : (κ : Choice) (L : ℕ) → Sound-at w b κ L → (d f : ℕ) → f < d → f < length (b .nodes) → Expansion b κ L f → f ∈ V
   sound-inside κ L so zero f lt len x = absurd (omega arith)
   sound-inside κ L so (suc d) f lt len x =
-      vi f .1 (len, (κ f, (so f x, λ g a.
-        let l : g < f = part-before b pr f (κ f) g a in sound-inside κ L so d g (omega arith) (omega arith) (part x a))))
+      vi f .1 (
+        len,
+        (
+          κ f,
+          (
+            so f x,
+            λ g a.
+                let l : g < f = part-before b pr f (κ f) g a in sound-inside κ L so d g (omega arith) (omega arith) (part x a),
+          ),
+        ),
+      )
 
   picked : (f : ℕ) → Dec (f ∈ V) → Side
   picked f (yes m) = vi f .0 m .1 .0
@@ -52,18 +61,19 @@ module _ (w : Moment) (b : Contents) (pr : Proper b) (V : ℕ) (vi : Viable w b 
   pick-sound L h f x = pick-fits f (pick-inside L h f x) .0
 
   pub sound-viable : (L : ℕ) → Under L (length (b .nodes)) → Some-sound w b L ↔ Inside L V
-  sound-viable L within =
-      ( (λ p f m. sound-inside (p .0) L (p .1) (suc f) f (omega arith) (within f m) (member m))
-      , (λ h. (pick, pick-sound L h)) )
+  sound-viable L within = (
+    (λ p f m. sound-inside (p .0) L (p .1) (suc f) f (omega arith) (within f m) (member m)),
+    (λ h. (pick, pick-sound L h)),
+  )
 
 module _ (b : Contents) (pr : Proper b) (truth : ℕ) (last : Bool) (V : ℕ) (vi : Viable (moment truth last) b V) where
   pub tells : Tells b truth last V
   tells = record {
     known = λ f m. vi f .0 m .0;
     sound = λ w sh L.
-      let here = sound-viable (moment truth last) b pr V vi (known-part b L) (λ f m. in-low L (length (b .nodes)) f m) in
-      let there = sound-shown b pr truth last w sh (known-part b L) in
-      ((λ p. here .0 (there .1 p)), (λ h. there .0 (here .1 h)));
+        let here = sound-viable (moment truth last) b pr V vi (known-part b L) (λ f m. in-low L (length (b .nodes)) f m) in
+        let there = sound-shown b pr truth last w sh (known-part b L) in
+        ((λ p. here .0 (there .1 p)), (λ h. there .0 (here .1 h)));
   }
 
 module _ (w : Moment) (b : Contents) (pr : Proper b) where
@@ -71,14 +81,16 @@ module _ (w : Moment) (b : Contents) (pr : Proper b) where
   viable-none f = ((λ m. absurd (zero-has f m)), (λ p. absurd (omega (arith, p .0))))
 
   viable-or : (V k : ℕ) → Fits-somehow w b V k → Viable-below w b V k → Viable-below w b (bitOr V (2 ^ k)) (k + 1)
-  viable-or V k (s, fit) vi f =
-      ( (λ m. ⊎-elim
-          (λ (x : f ∈ V). let r = vi f .0 x in (omega (arith, r .0), (r .1 .0, (r .1 .1 .0, λ g a. in-or-left V (2 ^ k) g (r .1 .1 .1 g a)))))
-          (λ (e : f ≡ k). (omega arith, (s, subst⁻¹ (λ (x : ℕ). Fits w b (bitOr V (2 ^ k)) x s) e (fit .0, λ g a. in-or-left V (2 ^ k) g (fit .1 g a)))))
-          (in-with V k f m))
-      , (λ p. elim (ℕ-discrete f k) [
-            yes e ↦ subst⁻¹ (λ (x : ℕ). x ∈ bitOr V (2 ^ k)) e (with-has V k)
-          | no ne ↦ in-or-left V (2 ^ k) f (vi f .1 (omega (arith, ne, p .0), (p .1 .0, (p .1 .1 .0, λ g a. lower g (part-before b pr f (p .1 .0) g a) (p .0) (p .1 .1 .1 g a))))) ]) )
+  viable-or V k (s, fit) vi f = (
+    (λ m. ⊎-elim
+        (λ (x : f ∈ V). let r = vi f .0 x in (omega (arith, r .0), (r .1 .0, (r .1 .1 .0, λ g a. in-or-left V (2 ^ k) g (r .1 .1 .1 g a)))))
+        (λ (e : f ≡ k). (omega arith, (s, subst⁻¹ (λ (x : ℕ). Fits w b (bitOr V (2 ^ k)) x s) e (fit .0, λ g a. in-or-left V (2 ^ k) g (fit .1 g a)))))
+        (in-with V k f m)),
+    (λ p. elim (ℕ-discrete f k) [
+      | yes e ↦ subst⁻¹ (λ (x : ℕ). x ∈ bitOr V (2 ^ k)) e (with-has V k)
+      | no ne ↦ in-or-left V (2 ^ k) f (vi f .1 (omega (arith, ne, p .0), (p .1 .0, (p .1 .1 .0, λ g a. lower g (part-before b pr f (p .1 .0) g a) (p .0) (p .1 .1 .1 g a)))))
+    ]),
+  )
     where
       lower : (g : ℕ) → g < f → f < k + 1 → g ∈ bitOr V (2 ^ k) → g ∈ V
       lower g l h m = ⊎-elim (λ x. x) (λ (e : g ≡ k). absurd (omega arith)) (in-with V k g m)
@@ -87,11 +99,13 @@ module _ (w : Moment) (b : Contents) (pr : Proper b) where
   viable-with V W k e fit vi = subst⁻¹ (λ (x : ℕ). Viable-below w b x (k + 1)) e (viable-or V k fit vi)
 
   pub viable-skip : (V k : ℕ) → (Fits-somehow w b V k → ⊥) → Viable-below w b V k → Viable-below w b V (k + 1)
-  viable-skip V k none vi f =
-      ( (λ m. let r = vi f .0 m in (omega (arith, r .0), r .1))
-      , (λ p. elim (ℕ-discrete f k) [
-            yes e ↦ absurd (none (p .1 .0, subst (λ (x : ℕ). Fits w b V x (p .1 .0)) e (p .1 .1)))
-          | no ne ↦ vi f .1 (omega (arith, ne, p .0), p .1) ]) )
+  viable-skip V k none vi f = (
+    (λ m. let r = vi f .0 m in (omega (arith, r .0), r .1)),
+    (λ p. elim (ℕ-discrete f k) [
+      | yes e ↦ absurd (none (p .1 .0, subst (λ (x : ℕ). Fits w b V x (p .1 .0)) e (p .1 .1)))
+      | no ne ↦ vi f .1 (omega (arith, ne, p .0), p .1)
+    ]),
+  )
 
 -- one side does not fit, so that the other decides
 pub fits-other : (w : Moment) (b : Contents) (V k : ℕ) → (Fits w b V k one → ⊥) → Fits-somehow w b V k → Fits w b V k other

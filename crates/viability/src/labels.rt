@@ -32,7 +32,10 @@ pub(crate) fn with(label: u64, number: u8) -> u64
 pub fn without(label: u64, number: u8) -> u64
     ensures { λ r. ⌜ Without label number r ⌝ }
 {
-    if contains(label, number) { label ^ (1 << number) } else { label }
+    if !contains(label, number) {
+        return label;
+    }
+    label ^ (1 << number)
 }
 
 /// Whether every formula of `label` is one of `others`.
@@ -47,5 +50,9 @@ pub fn known_part(book: &Book, label: u64) -> u64
     ensures { λ r. ⌜ r ≡ known-part (book-contents (now (book .entry))) label ⌝ }
 {
     let count = book.formula_count();
-    if count >= 64 { label } else { label % (1 << count) }
+    if count >= 64 {
+        label
+    } else {
+        label % (1 << count)
+    }
 }

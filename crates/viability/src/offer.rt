@@ -26,6 +26,19 @@ pub struct Offer {
     pub handed: u64,
 }
 
+impl Offer {
+    /// An offer by its parts.
+    fn new(admitted: bool, parts: u64, handed: u64) -> Offer
+        ensures { λ r. ⌜ r .admitted ≡ admitted ⌝ ∗ ⌜ r .parts ≡ parts ⌝ ∗ ⌜ r .handed ≡ handed ⌝ }
+    {
+        Offer {
+            admitted,
+            parts,
+            handed,
+        }
+    }
+}
+
 /// Whether an atom is among those that hold.
 fn holds(truth: u32, atom: u8) -> bool
     ensures { λ r. ⌜ r ≡ has truth atom ⌝ }
@@ -42,19 +55,19 @@ fn offer_on(node: Node, number: u8, side: Side, truth: u32, last: bool) -> Offer
     ensures { λ r. ⌜ Offered (moment truth last) number node (chosen side) r ⌝ }
 {
     match (node, side) {
-        (Node::True, _) => Offer { admitted: true, parts: 0, handed: 0 },
-        (Node::False, _) => Offer { admitted: false, parts: 0, handed: 0 },
-        (Node::Atom(a), _) => Offer { admitted: holds(truth, a), parts: 0, handed: 0 },
-        (Node::NotAtom(a), _) => Offer { admitted: !holds(truth, a), parts: 0, handed: 0 },
-        (Node::And(f, g), _) => Offer { admitted: true, parts: with(with(0, g), f), handed: 0 },
-        (Node::Or(f, _), Side::One) => Offer { admitted: true, parts: with(0, f), handed: 0 },
-        (Node::Or(_, g), Side::Other) => Offer { admitted: true, parts: with(0, g), handed: 0 },
-        (Node::Tomorrow(f), _) => Offer { admitted: !last, parts: 0, handed: with(0, f) },
-        (Node::WeakTomorrow(f), _) => Offer { admitted: true, parts: 0, handed: with(0, f) },
-        (Node::Until(_, g), Side::One) => Offer { admitted: true, parts: with(0, g), handed: 0 },
-        (Node::Until(f, _), Side::Other) => Offer { admitted: !last, parts: with(0, f), handed: with(0, number) },
-        (Node::Release(f, g), Side::One) => Offer { admitted: true, parts: with(with(0, g), f), handed: 0 },
-        (Node::Release(_, g), Side::Other) => Offer { admitted: true, parts: with(0, g), handed: with(0, number) },
+        (Node::True, _) => Offer::new(true, 0, 0),
+        (Node::False, _) => Offer::new(false, 0, 0),
+        (Node::Atom(a), _) => Offer::new(holds(truth, a), 0, 0),
+        (Node::NotAtom(a), _) => Offer::new(!holds(truth, a), 0, 0),
+        (Node::And(f, g), _) => Offer::new(true, with(with(0, g), f), 0),
+        (Node::Or(f, _), Side::One) => Offer::new(true, with(0, f), 0),
+        (Node::Or(_, g), Side::Other) => Offer::new(true, with(0, g), 0),
+        (Node::Tomorrow(f), _) => Offer::new(!last, 0, with(0, f)),
+        (Node::WeakTomorrow(f), _) => Offer::new(true, 0, with(0, f)),
+        (Node::Until(_, g), Side::One) => Offer::new(true, with(0, g), 0),
+        (Node::Until(f, _), Side::Other) => Offer::new(!last, with(0, f), with(0, number)),
+        (Node::Release(f, g), Side::One) => Offer::new(true, with(with(0, g), f), 0),
+        (Node::Release(_, g), Side::Other) => Offer::new(true, with(0, g), with(0, number)),
     }
 }
 
@@ -66,6 +79,10 @@ pub fn offer_of(book: &Book, number: u8, side: Side, truth: u32, last: bool) -> 
 {
     match book.node(number) {
         Ok(node) => offer_on(node, number, side, truth, last),
-        Err(_) => Offer { admitted: true, parts: 0, handed: 0 },
+        Err(_) => Offer {
+            admitted: true,
+            parts: 0,
+            handed: 0,
+        },
     }
 }

@@ -1,2 +1,4 @@
 pub mod Decimals
+pub mod Firsts
 pub mod Puts
+pub mod Signs

@@ -3,7 +3,7 @@
 ghost use mathlib.Core.Path.{_≡_};
 ghost use Prim.Native.Nat.{_+_, _≤_};
 ghost use lib.ListN.{length};
-ghost use Rattle.std.specs.Written.{decimal};
+ghost use Rattle.std.specs.Written.{decimal, signed};
 ghost use Rattle.writer.specs.Puts.{put-at, put-answer, put-leaves};
 
 /// Writes a text from `at` on, and returns the place after it; none where it does not fit, and then nothing is written.
@@ -55,4 +55,24 @@ pub fn put_decimal(out: &mut [u8], at: usize, n: u64) -> Option<usize>
         return None;
     }
     Some(write_decimal(out, at, n))
+}
+
+/// Writes a number in decimal from `at` on, with a minus before a negative one, and returns the place after it;
+/// none where it does not fit, and then nothing is written.
+pub fn put_signed(out: &mut [u8], at: usize, number: i32) -> Option<usize>
+    ensures answer { λ r. ⌜ r ≡ put-answer (length (now (out .entry))) at (signed number) ⌝ }
+    ensures after { λ _. ⌜ now (out .exit) ≡ put-leaves (now (out .entry)) at (signed number) ⌝ }
+{
+    let magnitude = number.unsigned_abs();
+    if number < 0 {
+        if at >= out.len() {
+            return None;
+        }
+        let Some(end) = put_decimal(out, at + 1, magnitude as u64) else {
+            return None;
+        };
+        out[at] = b'-';
+        return Some(end);
+    }
+    put_decimal(out, at, magnitude as u64)
 }

@@ -18,9 +18,10 @@ pub offer-on-requires : need.offer-on-requires
 offer-on-requires c κs =
     let b = book-contents (c .args .book .now) in
     let pr = book-proper (c .args .book .now) in
-    let r = read-in (b .nodes) (c .args .number) True _ (c .in-Ok .ensures tt) in
-    ( omega (arith, r .0, pr .few)
-    , subst (Operands-below (c .args .number)) (sym (r .1)) (known-below (b .atoms) (c .args .number) (node-at b (c .args .number)) (pr .before (c .args .number) (r .0))) )
+    let r = read-in (b .nodes) (c .args .number) True _ (c .in-Ok .ensures tt) in (
+      omega (arith, r .0, pr .few),
+      subst (Operands-below (c .args .number)) (sym (r .1)) (known-below (b .atoms) (c .args .number) (node-at b (c .args .number)) (pr .before (c .args .number) (r .0))),
+    )
 
 pub returns-in-Ok : need.returns-in-Ok
 returns-in-Ok c =

@@ -14,8 +14,8 @@ pub choices-again : need.choices-again
 choices-again c =
     absurd
     (first-admitted (moment (c .args .truth) (c .args .last)) (book-contents (c .args .book .now)) (c .viable-able .result) _ _ _ _ _ _
-      (c .choices .inv) (c .contains-in-loop-number .ensures) (c .side-for-side .ensures) (c .loop-number .inv)
-      (c .if-not-contains .ensures tt .0 refl) (c .offer-of-offer .ensures) (not-true _ (c .if-not-offer .taken)))
+    (c .choices .inv) (c .contains-in-loop-number .ensures) (c .side-for-side .ensures) (c .loop-number .inv)
+    (c .if-not-contains .ensures tt .0 refl) (c .offer-of-offer .ensures) (not-true _ (c .if-not-offer .taken)))
 
 pub returns-then-not-inside : need.returns-then-not-inside
 returns-then-not-inside c =

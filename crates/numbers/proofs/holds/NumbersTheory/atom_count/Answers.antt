@@ -1,6 +1,6 @@
-use mathlib.Core.Path.{sym}
+use native.Mathlib.Omega.{arith}
 use Rattle.numbers.specs.Model.{count-atoms}
 use Rattle.numbers.proofs.holds.NumbersTheory.atom_count.Needs as need
 
 pub returns : need.returns
-returns c = sym (count-atoms (c .args .self .now))
+returns c = omega (arith, count-atoms (c .args .self .now))
