@@ -72,19 +72,20 @@ module _ (q : Question) where
   least-end : (d : ℕ) (p : Position) → Ends q p → Led-to (Starts q) (Step q) d p → Unended (Starts q) (Step q) (Ends q) d → Least-end q d
   least-end d p e r none =
       let far : (x : Position) (m : ℕ) → Ends q x → Reached q m x → d ≤ m =
-          λ x m ex rx.
-            ⊎-elim (λ (h : m < d). absurd (none m x h (reached-led q m x rx) ex)) (λ (h : d ≤ m). h) (cases-lt m d) in
+      λ x m ex rx.
+      ⊎-elim (λ (h : m < d). absurd (none m x h (reached-led q m x rx) ex)) (λ (h : d ≤ m). h) (cases-lt m d) in
       ((p, e, (led-reached q d p r, λ m other. far p m e other)), λ x m ex dx. far x m ex (dx .0))
 
   within-counted : (d : ℕ) (p : Position) → Unended (Starts q) (Step q) (Ends q) d → Within (Starts q) (Step q) d p → Counted q p
-  within-counted d p none (j, h, l) =
-      ( j
-      , distance j p l
-      , λ d′ le.
-          ⊎-elim
-          (λ (less : d′ < d). absurd (none d′ (le .0 .0) less (reached-led q d′ (le .0 .0) (le .0 .2 .0)) (le .0 .1)))
-          (λ (more : d ≤ d′). omega arith)
-          (cases-lt d′ d))
+  within-counted d p none (j, h, l) = (
+    j,
+    distance j p l,
+    λ d′ le.
+        ⊎-elim
+        (λ (less : d′ < d). absurd (none d′ (le .0 .0) less (reached-led q d′ (le .0 .0) (le .0 .2 .0)) (le .0 .1)))
+        (λ (more : d ≤ d′). omega arith)
+        (cases-lt d′ d),
+  )
 
   -- THE ROWS
 
@@ -92,24 +93,26 @@ module _ (q : Question) where
   can-rows d n ys le x =
       record {
         apart = apart-distinct ys n (x .room) (x .apart);
-        all = λ e.
-            ( (λ i.
-                let w = x .sound e (in-listed ys n (x .room) e i) in
-                counted-if-ends q d le e .1 (w .0, distance (w .0) e (w .2), w .1))
-            , (λ c.
-                let w = counted-if-ends q d le e .0 c in
-                listed-in ys n (x .room) e (x .whole e (w .0, w .2, nearest (w .0) e (w .1)))));
+        all = λ e. (
+          (λ i.
+              let w = x .sound e (in-listed ys n (x .room) e i) in
+              counted-if-ends q d le e .1 (w .0, distance (w .0) e (w .2), w .1)),
+          (λ c.
+              let w = counted-if-ends q d le e .0 c in
+              listed-in ys n (x .room) e (x .whole e (w .0, w .2, nearest (w .0) e (w .1)))),
+        );
       }
 
   cannot-rows : (n : ℕ) (ys : List (Cell Row)) → No-end q → Exactly (λ p. (j : ℕ) × Least (Starts q) (Step q) j p) ys n → Rows q (positions ys n)
   cannot-rows n ys none x =
       record {
         apart = apart-distinct ys n (x .room) (x .apart);
-        all = λ e.
-            ( (λ i. let w = x .sound e (in-listed ys n (x .room) e i) in counted-if-none q none e .1 (w .0, distance (w .0) e (w .1)))
-            , (λ c.
-                let w = counted-if-none q none e .0 c in
-                listed-in ys n (x .room) e (x .whole e (w .0, nearest (w .0) e (w .1)))));
+        all = λ e. (
+          (λ i. let w = x .sound e (in-listed ys n (x .room) e i) in counted-if-none q none e .1 (w .0, distance (w .0) e (w .1))),
+          (λ c.
+              let w = counted-if-none q none e .0 c in
+              listed-in ys n (x .room) e (x .whole e (w .0, nearest (w .0) e (w .1)))),
+        );
       }
 
   -- THE HISTORY
@@ -132,10 +135,11 @@ module _ (q : Question) where
       let less : r .from < length xs = omega (arith, u .0) in
       let before = traced-path xs n (r .from) (leaf r) less (u .2) in
       let st : Step q (held xs (r .from) (leaf r)) (held xs k d) =
-          subst (λ (p : Position). Step q p (held xs k d)) (here xs (r .from) (leaf r) less d) (u .1) in
-      ( before .0
-      , before .1
-      , (snoc (before .2 .0) st, codes-snoc (before .2 .0) st ∙ ap (λ (l : List ℕ). l ++ r .code ∷ []) (before .2 .1)))
+      subst (λ (p : Position). Step q p (held xs k d)) (here xs (r .from) (leaf r) less d) (u .1) in (
+        before .0,
+        before .1,
+        (snoc (before .2 .0) st, codes-snoc (before .2 .0) st ∙ ap (λ (l : List ℕ). l ++ r .code ∷ []) (before .2 .1)),
+      )
 
   pub traced-backed : (xs : List (Cell Row)) (n k : ℕ) (d : Cell Row) → k < length xs → Traced (Starts q) (Step q) xs n k → Backed xs n (getD xs k d .item)
   traced-backed xs zero k d lt t = tt
@@ -179,7 +183,7 @@ module _ (q : Question) where
           let size = x .5 .0 in
           let many = length-positions ys count room in
           let is : answer q (length xs) ≡ can (suc depth) count =
-              answer-right q posed (length xs) (positions ys count) can-left (can (suc depth) count) .1 (omega arith, shortest, sym many) in
+          answer-right q posed (length xs) (positions ys count) can-left (can (suc depth) count) .1 (omega arith, shortest, sym many) in
           ap (λ (n : ℕ). Can n count) (add-one depth) ∙ ap outcome-of (sym is)
 
       pub can-backed : Backed ys depth (getD ys row blank .item)
@@ -192,12 +196,13 @@ module _ (q : Question) where
           let σ : List ℕ = trail ys depth (getD ys row blank .item) in
           let long : length σ ≡ suc depth = length-trail ys depth (getD ys row blank .item) in
           let continues : Continuation q σ =
-              paths-are-histories q posed σ .1
-              (record { steps = depth; from = w .0; to = end; path = w .2 .0; starts = w .1; ends = x .4 blank; codes-are = w .2 .1 }) in
-          ( σ
-          , record { continues = continues; least = λ τ c. let h = shortest .1 (length τ) (τ, c, refl) in omega arith }
-          , omega arith
-          , is ∙ ap (λ (n : ℕ). σ ++ drop n entry) (sym (add-one depth)))
+          paths-are-histories q posed σ .1
+          (record { steps = depth; from = w .0; to = end; path = w .2 .0; starts = w .1; ends = x .4 blank; codes-are = w .2 .1 }) in (
+            σ,
+            record { continues = continues; least = λ τ c. let h = shortest .1 (length τ) (τ, c, refl) in omega arith },
+            omega arith,
+            is ∙ ap (λ (n : ℕ). σ ++ drop n entry) (sym (add-one depth)),
+          )
 
     module _ (count : ℕ) (x : Searched (Starts q) (Step q) (Ends q) xs ys (found.Cannot count)) where
       none : No-end q
@@ -212,7 +217,7 @@ module _ (q : Question) where
           let size = x .2 .0 in
           let many = length-positions ys count room in
           let is : answer q (length xs) ≡ cannot count =
-              answer-right q posed (length xs) (positions ys count) cannot-left (cannot count) .1 (omega arith, none-is-none q posed .1 none, sym many) in
+          answer-right q posed (length xs) (positions ys count) cannot-left (cannot count) .1 (omega arith, none-is-none q posed .1 none, sym many) in
           ap outcome-of (sym is)
 
     module _ (depth : ℕ) (x : Searched (Starts q) (Step q) (Ends q) xs ys (found.Short depth)) where
@@ -235,11 +240,11 @@ module _ (q : Question) where
           let size = x .0 in
           let many = length-positions ys (length ys) whole in
           let more = no-longer (p ∷ all-positions) (ps .0)
-              ((λ i. x .4 .2 (in-listed ys (length ys) whole p i)), short-distinct)
-              (λ e. elim [
-              | inl z ↦ ps .1 .all e .1 (subst (Counted q) (sym z) (within-counted depth p (x .3) (x .4 .1)))
-              | inr i ↦ ps .1 .all e .1 (short-counted e i)
-              ]) in
+          ((λ i. x .4 .2 (in-listed ys (length ys) whole p i)), short-distinct)
+          (λ e. elim [
+            | inl z ↦ ps .1 .all e .1 (subst (Counted q) (sym z) (within-counted depth p (x .3) (x .4 .1)))
+            | inr i ↦ ps .1 .all e .1 (short-counted e i)
+          ]) in
           let is : answer q (length xs) ≡ short (length xs) =
-              answer-right q posed (length xs) (ps .0) (ps .1) (short (length xs)) .1 (omega arith, refl) in
+          answer-right q posed (length xs) (ps .0) (ps .1) (short (length xs)) .1 (omega arith, refl) in
           ap (λ (n : ℕ). Short n) size ∙ ap outcome-of (sym is)

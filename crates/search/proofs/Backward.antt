@@ -39,7 +39,7 @@ module _ (xs : List (Cell Row)) (entry : List ℕ) (row : Row) (depth : ℕ) (h 
       let less : at .from < length xs = v .backed .0 in
       let size = length-set h (suc n) (at .code) in
       let same : came-from xs at ≡ getD xs (at .from) e .item =
-          ap (λ (c : Cell Row). c .item) (getD-default xs (at .from) (leaf at) e less) in
+      ap (λ (c : Cell Row). c .item) (getD-default xs (at .from) (leaf at) e less) in
       let one : n ≡ suc n - 1 = omega arith in
       subst (λ (m : ℕ). Back xs entry row depth (set h (suc n) (at .code)) (getD xs (at .from) e .item) m) one
       (subst (λ (r : Row). Back xs entry row depth (set h (suc n) (at .code)) r n) same

@@ -76,7 +76,7 @@ indexed-apart xs n ix i j d lij ljn same =
     let ri = row-read xs n (x .within) i d r (omega arith) in
     let rj = row-read xs n (x .within) j d r ljn in
     let alike : same-position (getD (items xs n) i r) (getD (items xs n) j r) ≡ true =
-        is-same (getD (items xs n) i r) (getD (items xs n) j r) (ap position ri ∙ same ∙ ap position (sym rj)) in
+    is-same (getD (items xs n) i r) (getD (items xs n) j r) (ap position ri ∙ same ∙ ap position (sym rj)) in
     let z : i ≡ j = items-apart same-position row-turn same-back same-through same-turns xs n r x i j (omega arith) ljn alike in
     omega arith
 
@@ -114,8 +114,8 @@ module _ (xs ys : List (Cell Row)) (n : ℕ) (r : Row) (few : length xs ≤ 2 ^ 
       let at = slot-found (place same-position r (items xs n)) k n (length xs) (s .slot-is) in
       let lt : k < n = omega (arith, place-below same-position r (items xs n) k at, length-items xs n len) in
       let same : position (getD (items xs n) k r) ≡ position r = same-is (getD (items xs n) k r) r (place-found same-position r r (items xs n) k at) in
-      let kept = row-kept xs ys n n len (omega arith) (s .rest-kept) (s .indexed) (λ i e _. ap (λ (l : List Row). getD l i e) (s .items-are)) in
-      ( record {
+      let kept = row-kept xs ys n n len (omega arith) (s .rest-kept) (s .indexed) (λ i e _. ap (λ (l : List Row). getD l i e) (s .items-are)) in (
+        record {
           rises = omega arith;
           room = rows-within ys n (s .indexed);
           size = s .same-length;
@@ -123,8 +123,9 @@ module _ (xs ys : List (Cell Row)) (n : ℕ) (r : Row) (few : length xs ≤ 2 ^ 
           rest = cell-kept xs ys n n len (omega arith) (s .rest-kept) (s .indexed);
           new = λ i d ge less. absurd (omega arith);
           indexed = s .indexed;
-        }
-      , λ p e. (k, omega arith, lt, λ d. ap position (kept k d lt ∙ sym (row-read xs n len k d r lt)) ∙ same ∙ sym e))
+        },
+        λ p e. (k, omega arith, lt, λ d. ap position (kept k d lt ∙ sym (row-read xs n len k d r lt)) ∙ same ∙ sym e),
+      )
 
   pub enter-full : Done slot.Full → Spread (λ e. e .from ≡ r .from) (λ p. p ≡ position r) xs ys n None
   enter-full s =
@@ -132,11 +133,11 @@ module _ (xs ys : List (Cell Row)) (n : ℕ) (r : Row) (few : length xs ≤ 2 ^ 
       let at = slot-full (place same-position r (items xs n)) n (length xs) (s .slot-is) in
       let size = s .same-length in
       let over : n ≡ length xs = elim (and-cases (ltb n (length xs)) (ltb n (2 ^ 32)) (at .1)) [
-          | inl a ↦ (let h = ltb-false n (length xs) a in omega arith)
-          | inr a ↦ (let h = ltb-false n (2 ^ 32) a in omega arith)
-          ] in
-      let kept = row-kept xs ys n n len (omega arith) (s .rest-kept) (s .indexed) (λ i e _. ap (λ (l : List Row). getD l i e) (s .items-are)) in
-      ( record {
+        | inl a ↦ (let h = ltb-false n (length xs) a in omega arith)
+        | inr a ↦ (let h = ltb-false n (2 ^ 32) a in omega arith)
+      ] in
+      let kept = row-kept xs ys n n len (omega arith) (s .rest-kept) (s .indexed) (λ i e _. ap (λ (l : List Row). getD l i e) (s .items-are)) in (
+        record {
           rises = len;
           room = omega arith;
           size = s .same-length;
@@ -144,10 +145,15 @@ module _ (xs ys : List (Cell Row)) (n : ℕ) (r : Row) (few : length xs ≤ 2 ^ 
           rest = λ i d ge. cell-kept xs ys n n len (omega arith) (s .rest-kept) (s .indexed) i d (omega arith);
           new = λ i d ge less. absurd (omega arith);
           indexed = subst (Indexed-rows ys) over (s .indexed);
-        }
-      , (position r, refl, λ l.
-          let lt : l .0 < n = omega (arith, l .2) in
-          missing (at .0) (l .0) (leaf r) lt (ap position (sym (kept (l .0) (leaf r) lt)) ∙ l .3 (leaf r))))
+        },
+        (
+          position r,
+          refl,
+          λ l.
+              let lt : l .0 < n = omega (arith, l .2) in
+              missing (at .0) (l .0) (leaf r) lt (ap position (sym (kept (l .0) (leaf r) lt)) ∙ l .3 (leaf r)),
+        ),
+      )
 
   pub enter-added : (k : ℕ) → Done (slot.Added k) → Spread (λ e. e .from ≡ r .from) (λ p. p ≡ position r) xs ys n (Some (n + 1))
   enter-added k s =
@@ -155,21 +161,22 @@ module _ (xs ys : List (Cell Row)) (n : ℕ) (r : Row) (few : length xs ≤ 2 ^ 
       let within = rows-within ys (n + 1) (s .indexed) in
       let size = length-items xs n len in
       let kept = row-kept xs ys n (n + 1) len (omega arith) (s .rest-kept) (s .indexed)
-          (λ i e lt. ap (λ (l : List Row). getD l i e) (s .items-are) ∙ getD-append-left (items xs n) (r ∷ []) e i (omega arith)) in
+      (λ i e lt. ap (λ (l : List Row). getD l i e) (s .items-are) ∙ getD-append-left (items xs n) (r ∷ []) e i (omega arith)) in
       let newest : (d : Cell Row) → getD ys n d .item ≡ r = λ d.
-          sym (row-read ys (n + 1) within n d r (omega arith)) ∙ ap (λ (l : List Row). getD l n r) (s .items-are)
-          ∙ getD-append-right (items xs n) (r ∷ []) n n r size (omega arith)
-          ∙ ap (λ (i : ℕ). getD (r ∷ []) i r) (let z : n - n ≡ 0 = omega arith in z) in
-      ( record {
+      sym (row-read ys (n + 1) within n d r (omega arith)) ∙ ap (λ (l : List Row). getD l n r) (s .items-are)
+      ∙ getD-append-right (items xs n) (r ∷ []) n n r size (omega arith)
+      ∙ ap (λ (i : ℕ). getD (r ∷ []) i r) (let z : n - n ≡ 0 = omega arith in z) in (
+        record {
           rises = omega arith;
           room = within;
           size = s .same-length;
           kept = kept;
           rest = cell-kept xs ys n (n + 1) len (omega arith) (s .rest-kept) (s .indexed);
           new = λ i d ge less.
-            let z : n ≡ i = omega arith in
-            subst (λ (j : ℕ). Entered (getD ys j d .item)) z
-            (ap (λ (x : Row). x .from) (newest d), ap position (newest d));
+              let z : n ≡ i = omega arith in
+              subst (λ (j : ℕ). Entered (getD ys j d .item)) z
+              (ap (λ (x : Row). x .from) (newest d), ap position (newest d));
           indexed = s .indexed;
-        }
-      , λ p e. (n, omega arith, omega arith, λ d. ap position (newest d) ∙ sym e))
+        },
+        λ p e. (n, omega arith, omega arith, λ d. ap position (newest d) ∙ sym e),
+      )

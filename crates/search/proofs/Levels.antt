@@ -33,7 +33,6 @@ pub record Level (I : Position → Type 0) (S : Position → Position → Type 0
   pub traced : (k : ℕ) → start ≤ k → k < filled → Traced I S ys depth k
 
 module _ (I : Position → Type 0) (S : Position → Position → Type 0) (E : Position → Type 0) where
-
   reached-zero : (j : ℕ) (q : Position) → j ≤ 0 → Led-to I S j q → I q
   reached-zero zero q h r = r
   reached-zero (suc j) q h r = absurd (omega arith)
@@ -45,10 +44,11 @@ module _ (I : Position → Type 0) (S : Position → Position → Type 0) (E : P
       let from : ℕ = getD xs k d .item .from in
       let back : from < k = t d .0 in
       let less : from < b = omega arith in
-      subst (λ (r : Row). (r .from < k) × S (held ys (r .from) d) (position r) × Traced I S ys n (r .from)) (sym (same k d lt))
-      ( back
-      , subst (λ (p : Position). S p (held xs k d)) (sym (ap position (same from d less))) (t d .1)
-      , traced-kept xs ys b same n from less (t d .2))
+      subst (λ (r : Row). (r .from < k) × S (held ys (r .from) d) (position r) × Traced I S ys n (r .from)) (sym (same k d lt)) (
+        back,
+        subst (λ (p : Position). S p (held xs k d)) (sym (ap position (same from d less))) (t d .1),
+        traced-kept xs ys b same n from less (t d .2),
+      )
 
   pub level-first : (F : Row → Type 0) (xs ys : List (Cell Row)) (n : ℕ) → Spread F I xs ys 0 (Some n) → Level I S E ys ys 0 n 0
   level-first F xs ys n (g, whole) =
@@ -85,23 +85,27 @@ module _ (I : Position → Type 0) (S : Position → Position → Type 0) (E : P
       let r = getD zs k d .item in
       let c = came d in
       let low : start ≤ r .from = c .0 in
-      let less : r .from < filled = c .1 in
-      ( omega arith
-      , subst (λ (p : Position). S p (position r)) (sym (ap position (same (r .from) d less))) (c .2 d)
-      , traced-kept ys zs filled same depth (r .from) less (old (r .from) low less)))
+      let less : r .from < filled = c .1 in (
+        omega arith,
+        subst (λ (p : Position). S p (position r)) (sym (ap position (same (r .from) d less))) (c .2 d),
+        traced-kept ys zs filled same depth (r .from) less (old (r .from) low less),
+      ))
 
   -- a position at the next distance that was not there before has that distance
   first-there : (xs ys : List (Cell Row)) (start filled depth : ℕ) → Level I S E xs ys start filled depth
       → (p : Position) → Led-to I S (depth + 1) p → (Listed ys 0 filled p → ⊥) → Within I S (depth + 1) p
-  first-there xs ys start filled depth v p r absent =
-      ( depth + 1
-      , omega arith
-      , ( r
-        , λ m other.
-            ⊎-elim
-            (λ (h : m < depth + 1). absurd (absent (v .whole m p (omega arith) other)))
-            (λ (h : depth + 1 ≤ m). h)
-            (cases-lt m (depth + 1))))
+  first-there xs ys start filled depth v p r absent = (
+    depth + 1,
+    omega arith,
+    (
+      r,
+      λ m other.
+          ⊎-elim
+          (λ (h : m < depth + 1). absurd (absent (v .whole m p (omega arith) other)))
+          (λ (h : depth + 1 ≤ m). h)
+          (cases-lt m (depth + 1)),
+    ),
+  )
 
   -- no position stands in two ranges of indexed cells
   not-twice : (zs : List (Cell Row)) (n m : ℕ) (p : Position) → Indexed-rows zs m → Listed zs 0 n p → Listed zs n m p → ⊥
@@ -112,23 +116,23 @@ module _ (I : Position → Type 0) (S : Position → Position → Type 0) (E : P
       → Spread (Came S ys start filled) (After S ys start filled) ys zs filled (Some m) → Level I S E xs zs filled m (depth + 1)
   level-next xs ys zs start filled depth m lt v none (g, all) =
       let new : (p : Position) → Listed zs filled m p → Led-to I S (depth + 1) p =
-          λ p l.
-            let a = listed-new (Came S ys start filled) (After S ys start filled) ys zs filled m g p l in
-            reached-more depth (a .0) p (v .newest (a .0) (a .1)) (a .2) in
+      λ p l.
+      let a = listed-new (Came S ys start filled) (After S ys start filled) ys zs filled m g p l in
+      reached-more depth (a .0) p (v .newest (a .0) (a .1)) (a .2) in
       let back : (p : Position) → Listed zs 0 filled p → Listed ys 0 filled p =
-          λ p l. listed-kept zs ys 0 filled p (λ k d h. sym (g .kept k d h)) l in
+      λ p l. listed-kept zs ys 0 filled p (λ k d h. sym (g .kept k d h)) l in
       let on : (p : Position) → Listed ys 0 filled p → Listed zs 0 filled p =
-          λ p l. listed-kept ys zs 0 filled p (g .kept) l in
+      λ p l. listed-kept ys zs 0 filled p (g .kept) l in
       let wide : (p : Position) → Listed zs 0 filled p → Listed zs 0 m p =
-          λ p l. listed-wider zs 0 filled 0 m p (omega arith) (g .rises) l in
+      λ p l. listed-wider zs 0 filled 0 m p (omega arith) (g .rises) l in
       let follows : (p q : Position) → Listed ys 0 filled p → S p q → Listed zs 0 m q =
-          λ p q l s.
-            ⊎-elim
-            (λ old. wide q (on q (v .expanded p q old s)))
-            (λ now′. all q (p, now′, s))
-            (listed-split ys 0 start filled p l) in
+      λ p q l s.
+      ⊎-elim
+      (λ old. wide q (on q (v .expanded p q old s)))
+      (λ now′. all q (p, now′, s))
+      (listed-split ys 0 start filled p l) in
       let unended : (p : Position) → Listed ys 0 filled p → E p → ⊥ =
-          λ p l e. ⊎-elim (λ old. v .passed p old e) (λ now′. none p now′ e) (listed-split ys 0 start filled p l) in
+      λ p l e. ⊎-elim (λ old. v .passed p old e) (λ now′. none p now′ e) (listed-split ys 0 start filled p l) in
       record {
         order = g .rises;
         counted = omega (arith, v .counted);
@@ -144,8 +148,8 @@ module _ (I : Position → Type 0) (S : Position → Position → Type 0) (E : P
             ⊎-elim
             (λ (less : j < depth + 1). wide q (on q (v .whole j q (omega arith) r)))
             (λ (more : depth + 1 ≤ j).
-              let a = reached-last depth j q (omega arith) r in
-              follows (a .0) q (v .whole depth (a .0) (omega arith) (a .1)) (a .2))
+            let a = reached-last depth j q (omega arith) r in
+            follows (a .0) q (v .whole depth (a .0) (omega arith) (a .1)) (a .2))
             (cases-lt j (depth + 1));
         before = λ j q h r. on q (v .whole j q (omega (arith, h)) r);
         passed = λ p l e. unended p (back p l) e;
@@ -161,19 +165,20 @@ module _ (I : Position → Type 0) (S : Position → Position → Type 0) (E : P
 
   pub level-can : (xs ys : List (Cell Row)) (start filled depth i : ℕ) → Level I S E xs ys start filled depth → Found-in E ys start filled (Some i)
       → Searched I S E xs ys (Can i filled depth)
-  level-can xs ys start filled depth i v (lo, hi, e) =
-      ( record {
-          room = v .room;
-          sound = v .sound;
-          whole = λ p w. v .whole (w .0) p (w .1) (w .2 .0);
-          apart = indexed-apart ys filled (v .indexed);
-        }
-      , level-unended xs ys start filled depth v
-      , hi
-      , v .traced i lo hi
-      , e
-      , (v .size, v .rest)
-      , omega (arith, v .counted))
+  level-can xs ys start filled depth i v (lo, hi, e) = (
+    record {
+      room = v .room;
+      sound = v .sound;
+      whole = λ p w. v .whole (w .0) p (w .1) (w .2 .0);
+      apart = indexed-apart ys filled (v .indexed);
+    },
+    level-unended xs ys start filled depth v,
+    hi,
+    v .traced i lo hi,
+    e,
+    (v .size, v .rest),
+    omega (arith, v .counted),
+  )
 
   -- where the last layer is empty, what is listed is all
   all-listed : (xs ys : List (Cell Row)) (start filled depth : ℕ) → filled ≤ start → Level I S E xs ys start filled depth → (j : ℕ) (q : Position) → Led-to I S j q → Listed ys 0 filled q
@@ -182,56 +187,61 @@ module _ (I : Position → Type 0) (S : Position → Position → Type 0) (E : P
       v .expanded p q (listed-wider ys 0 filled 0 start p (omega arith) h (all-listed xs ys start filled depth h v j p r)) s
 
   pub level-cannot : (xs ys : List (Cell Row)) (start filled depth : ℕ) → filled ≤ start → Level I S E xs ys start filled depth → Searched I S E xs ys (Cannot filled)
-  level-cannot xs ys start filled depth h v =
-      ( record {
-          room = v .room;
-          sound = λ p l. let w = v .sound p l in (w .0, w .2);
-          whole = λ p w. all-listed xs ys start filled depth h v (w .0) p (w .1 .0);
-          apart = indexed-apart ys filled (v .indexed);
-        }
-      , (λ j q r e. v .passed q (listed-wider ys 0 filled 0 start q (omega arith) h (all-listed xs ys start filled depth h v j q r)) e)
-      , (v .size, v .rest))
+  level-cannot xs ys start filled depth h v = (
+    record {
+      room = v .room;
+      sound = λ p l. let w = v .sound p l in (w .0, w .2);
+      whole = λ p w. all-listed xs ys start filled depth h v (w .0) p (w .1 .0);
+      apart = indexed-apart ys filled (v .indexed);
+    },
+    (λ j q r e. v .passed q (listed-wider ys 0 filled 0 start q (omega arith) h (all-listed xs ys start filled depth h v j q r)) e),
+    (v .size, v .rest),
+  )
 
   pub level-short : (xs ys zs : List (Cell Row)) (start filled depth : ℕ) → start < filled → Level I S E xs ys start filled depth → Found-in E ys start filled None
       → Spread (Came S ys start filled) (After S ys start filled) ys zs filled None → Searched I S E xs zs (Short (depth + 1))
   level-short xs ys zs start filled depth lt v none (g, (q, a, absent)) =
       let e : length ys ≡ length zs = sym (g .size) in
       let new : (p : Position) → After S ys start filled p → Led-to I S (depth + 1) p =
-          λ p b. reached-more depth (b .0) p (v .newest (b .0) (b .1)) (b .2) in
+      λ p b. reached-more depth (b .0) p (v .newest (b .0) (b .1)) (b .2) in
       let on : (p : Position) → Listed ys 0 filled p → Listed zs 0 filled p =
-          λ p l. listed-kept ys zs 0 filled p (g .kept) l in
+      λ p l. listed-kept ys zs 0 filled p (g .kept) l in
       let up : filled ≤ length ys = g .rises in
       let to : (p : Position) → Listed zs filled (length zs) p → Listed zs filled (length ys) p =
-          λ p l. listed-wider zs filled (length zs) filled (length ys) p (omega arith) (omega (arith, e)) l in
-      ( g .size ∙ v .size
-      , subst (Apart zs) e (indexed-apart zs (length ys) (g .indexed))
-      , (λ p l.
-          ⊎-elim
-          (λ old. let w = v .sound p (listed-kept zs ys 0 filled p (λ k d h. sym (g .kept k d h)) old) in (w .0, omega (arith, w .1), w .2))
-          (λ now′.
+      λ p l. listed-wider zs filled (length zs) filled (length ys) p (omega arith) (omega (arith, e)) l in (
+        g .size ∙ v .size,
+        subst (Apart zs) e (indexed-apart zs (length ys) (g .indexed)),
+        (λ p l.
+            ⊎-elim
+            (λ old. let w = v .sound p (listed-kept zs ys 0 filled p (λ k d h. sym (g .kept k d h)) old) in (w .0, omega (arith, w .1), w .2))
+            (λ now′.
             first-there xs ys start filled depth v p
             (new p (listed-new (Came S ys start filled) (After S ys start filled) ys zs filled (length ys) g p (to p now′)))
             (λ old. not-twice zs filled (length ys) p (g .indexed) (on p old) (to p now′)))
-          (listed-split zs 0 filled (length zs) p l))
-      , (λ j q′ h r x.
-          ⊎-elim
-          (λ old. v .passed q′ old x)
-          (λ now′. none q′ now′ x)
-          (listed-split ys 0 start filled q′ (v .whole j q′ (omega (arith, h)) r)))
-      , ( q
-        , first-there xs ys start filled depth v q (new q a)
-          (λ old. absent (listed-wider zs 0 filled 0 (length ys) q (omega arith) up (on q old)))
-        , λ l. absent (listed-wider zs 0 (length zs) 0 (length ys) q (omega arith) (omega (arith, e)) l)))
+            (listed-split zs 0 filled (length zs) p l)),
+        (λ j q′ h r x.
+            ⊎-elim
+            (λ old. v .passed q′ old x)
+            (λ now′. none q′ now′ x)
+            (listed-split ys 0 start filled q′ (v .whole j q′ (omega (arith, h)) r))),
+        (
+          q,
+          first-there xs ys start filled depth v q (new q a)
+              (λ old. absent (listed-wider zs 0 filled 0 (length ys) q (omega arith) up (on q old))),
+          λ l. absent (listed-wider zs 0 (length zs) 0 (length ys) q (omega arith) (omega (arith, e)) l),
+        ),
+      )
 
   pub begin-short : (F : Row → Type 0) (xs ys : List (Cell Row)) → Spread F I xs ys 0 None → Searched I S E xs ys (Short 0)
   begin-short F xs ys (g, (q, a, absent)) =
-      let e : length xs ≡ length ys = sym (g .size) in
-      ( g .size
-      , subst (Apart ys) e (indexed-apart ys (length xs) (g .indexed))
-      , (λ p l.
-          (0, omega arith, (listed-new F I xs ys 0 (length xs) g p (listed-wider ys 0 (length ys) 0 (length xs) p (omega arith) (omega (arith, e)) l), λ m r. omega arith)))
-      , (λ j q′ h r x. absurd (omega (arith, h)))
-      , (q, (0, omega arith, (a, λ m r. omega arith)), λ l. absent (listed-wider ys 0 (length ys) 0 (length xs) q (omega arith) (omega (arith, e)) l)))
+      let e : length xs ≡ length ys = sym (g .size) in (
+        g .size,
+        subst (Apart ys) e (indexed-apart ys (length xs) (g .indexed)),
+        (λ p l.
+            (0, omega arith, (listed-new F I xs ys 0 (length xs) g p (listed-wider ys 0 (length ys) 0 (length xs) p (omega arith) (omega (arith, e)) l), λ m r. omega arith))),
+        (λ j q′ h r x. absurd (omega (arith, h))),
+        (q, (0, omega arith, (a, λ m r. omega arith)), λ l. absent (listed-wider ys 0 (length ys) 0 (length xs) q (omega arith) (omega (arith, e)) l)),
+      )
 
   -- the rows before the starting positions were entered, in place of those after
   pub level-from : (F : Row → Type 0) (xs₀ xs ys : List (Cell Row)) (n start filled depth : ℕ) → Grown (λ r. F r × I (position r)) xs₀ xs 0 n → n ≤ filled

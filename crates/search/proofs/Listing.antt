@@ -57,11 +57,12 @@ module _ (cells : List (Cell NextLabel)) (n : ℕ) (room : n ≤ length cells) w
 
   -- the positions with the labels, one after another
   pub some-labelled : (place code : ℕ) (p : Position) → Some-of (λ i e. e ≡ at-place place (label-in cells i) code) 0 n p → Labelled place code cells n p
-  some-labelled place code p (i, lo, hi, e) =
-      ( ap (λ (x : Position). x .place) e
-      , ap (λ (x : Position). x .code) e
-      , subst (λ (L : Label). In L (labels cells n)) (label-at i 0 hi ∙ sym (ap (λ (x : Position). x .label) e))
-        (in-at (labels cells n) i 0 (omega (arith, length-labels))))
+  some-labelled place code p (i, lo, hi, e) = (
+    ap (λ (x : Position). x .place) e,
+    ap (λ (x : Position). x .code) e,
+    subst (λ (L : Label). In L (labels cells n)) (label-at i 0 hi ∙ sym (ap (λ (x : Position). x .label) e))
+        (in-at (labels cells n) i 0 (omega (arith, length-labels))),
+  )
 
   pub labelled-some : (place code : ℕ) (p : Position) → Labelled place code cells n p → Some-of (λ i e. e ≡ at-place place (label-in cells i) code) 0 n p
   labelled-some place code p (at, is, i) =
@@ -76,12 +77,14 @@ module _ (b : Contents) (L : Label) (truth : ℕ) (cells after : List (Cell Next
   pub patterned-some : (count : ℕ) → Lists-next b truth false L cells after (Some count)
       → Patterned b L truth after (Some (record { set = true; truth = truth; count = count }))
   patterned-some count lists =
-      let e = lists (moment truth false) (shows-moment (b .atoms) truth false) in
-      ( refl
-      , refl
-      , λ _.
-          ( to-index same-label label-turn after count (e .0 .indexed) .within
-          , λ w sh q. ((λ i. lists w sh .0 .only q i), (λ h. lists w sh .1 q h))))
+      let e = lists (moment truth false) (shows-moment (b .atoms) truth false) in (
+        refl,
+        refl,
+        λ _. (
+          to-index same-label label-turn after count (e .0 .indexed) .within,
+          λ w sh q. ((λ i. lists w sh .0 .only q i), (λ h. lists w sh .1 q h)),
+        ),
+      )
 
   pub patterned-none : length cells ≤ 2 ^ 32 → length after ≡ length cells → Lists-next b truth false L cells after None → Patterned b L truth after None
   patterned-none few size lists =
@@ -109,11 +112,12 @@ placed-in place code (L ∷ ls) p (inr i) = let r = placed-in place code ls p i 
 
 placed-apart : (place code : ℕ) (ls : List Label) → Distinct ls → Distinct (map (λ L. at-place place L code) ls)
 placed-apart place code [] d = tt
-placed-apart place code (L ∷ ls) d =
-    ( (λ i.
-        let r = placed-in place code ls (at-place place L code) i in
-        d .0 (subst (λ (x : Label). In x ls) (sym (ap (λ (p : Position). p .label) (r .2))) (r .1)))
-    , placed-apart place code ls (d .1))
+placed-apart place code (L ∷ ls) d = (
+  (λ i.
+      let r = placed-in place code ls (at-place place L code) i in
+      d .0 (subst (λ (x : Label). In x ls) (sym (ap (λ (p : Position). p .label) (r .2))) (r .1))),
+  placed-apart place code ls (d .1),
+)
 
 module _ (xs ys : List (Cell Row)) (n : ℕ) (from place code : ℕ) (cells : List (Cell NextLabel))
     (more : length xs ≤ length cells) (apart : Distinct (labels cells (length cells)))
@@ -137,10 +141,11 @@ module _ (xs ys : List (Cell Row)) (n : ℕ) (from place code : ℕ) (cells : Li
   made-listed m room all p i =
       let r = placed-in place code (labels cells count) p i in
       let e = r .2 in
-      listed-in ys m room p (all p
-      ( ap (λ (x : Position). x .place) e
-      , ap (λ (x : Position). x .code) e
-      , subst (λ (M : Label). In M (labels cells count)) (sym (ap (λ (x : Position). x .label) e)) (r .1)))
+      listed-in ys m room p (all p (
+        ap (λ (x : Position). x .place) e,
+        ap (λ (x : Position). x .code) e,
+        subst (λ (M : Label). In M (labels cells count)) (sym (ap (λ (x : Position). x .label) e)) (r .1),
+      ))
 
   pub overfull-some : (m : ℕ) → Spread F (Labelled place code cells count) xs ys n (Some m) → Spread F (Labelled-or L place code cells count) xs ys n None
   overfull-some m (g, all) =
@@ -150,21 +155,25 @@ module _ (xs ys : List (Cell Row)) (n : ℕ) (from place code : ℕ) (cells : Li
       let long : length made ≡ count = length-map (labels cells count) (λ M. at-place place M code) ∙ length-labels cells count (omega arith) in
       let fit = no-longer made (positions ys m) (placed-apart place code (labels cells count) apart) (made-listed m room all) in
       let full : m ≡ length xs = omega arith in
-      let p : Position = at-place place L code in
-      ( grown-to (λ r. F r × Labelled-or L place code cells count (position r)) xs ys n m (length xs) full (wider m g)
-      , ( p
-        , inr refl
-        , λ l.
-            let over = no-longer (p ∷ made) (positions ys m)
-                ( (λ i.
+      let p : Position = at-place place L code in (
+        grown-to (λ r. F r × Labelled-or L place code cells count (position r)) xs ys n m (length xs) full (wider m g),
+        (
+          p,
+          inr refl,
+          λ l.
+              let over = no-longer (p ∷ made) (positions ys m) (
+                (λ i.
                     let r = placed-in place code (labels cells count) p i in
-                    absent (subst (λ (M : Label). In M (labels cells count)) (sym (ap (λ (x : Position). x .label) (r .2))) (r .1)))
-                , placed-apart place code (labels cells count) apart)
-                (λ e. elim [
+                    absent (subst (λ (M : Label). In M (labels cells count)) (sym (ap (λ (x : Position). x .label) (r .2))) (r .1))),
+                placed-apart place code (labels cells count) apart,
+              )
+              (λ e. elim [
                 | inl z ↦ listed-in ys m room e (subst (Listed ys 0 m) (sym z) (listed-to ys 0 m (length xs) p full l))
                 | inr i ↦ made-listed m room all e i
-                ]) in
-            omega arith))
+              ]) in
+              omega arith,
+        ),
+      )
 
   pub overfull-none : Spread F (Labelled place code cells count) xs ys n None → Spread F (Labelled-or L place code cells count) xs ys n None
   overfull-none (g, (p, x, missing)) = (wider (length xs) g, (p, inl x, missing))

@@ -79,11 +79,14 @@ pub came-here : (S : Position → Position → Type 0) (P : Row → Type 0) (xs 
 came-here S P xs ys a b i n e g lo hi len r s =
     let lt : i < length xs = omega arith in
     let from : r .from ≡ i = s .0 in
-    let was : (d : Cell Row) → held xs i d ≡ held ys i e = λ d. here xs i e lt d ∙ sym (ap position (g .kept i e hi)) in
-    ( ( omega arith
-      , omega arith
-      , λ d. subst (λ (k : ℕ). S (held xs k d) (position r)) (sym from) (subst (λ (p : Position). S p (position r)) (sym (was d)) (s .1)))
-    , (held ys i e, (i, lo, hi, was), s .1))
+    let was : (d : Cell Row) → held xs i d ≡ held ys i e = λ d. here xs i e lt d ∙ sym (ap position (g .kept i e hi)) in (
+      (
+        omega arith,
+        omega arith,
+        λ d. subst (λ (k : ℕ). S (held xs k d) (position r)) (sym from) (subst (λ (p : Position). S p (position r)) (sym (was d)) (s .1)),
+      ),
+      (held ys i e, (i, lo, hi, was), s .1),
+    )
 
 pub after-here : (S : Position → Position → Type 0) (P : Row → Type 0) (xs ys : List (Cell Row)) (a b i n : ℕ) (e : Cell Row)
     → Grown P xs ys b n → a ≤ i → i < b → b ≤ length xs → (q : Position) → S (held ys i e) q → After S xs a b q

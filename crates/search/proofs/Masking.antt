@@ -22,27 +22,29 @@ module _ (m : Meaning) (c : ℕ) (n : Next) where
 
   pub shown-with : (mask k more : ℕ) → Shown m c n mask k → m .fact k c n ≡ true → more ≡ bitOr mask (2 ^ k) → Shown m c n more (k + 1)
   shown-with mask k more s f e =
-      subst (λ (x : ℕ). Shown m c n x (k + 1)) (sym e) (λ a.
-      ( (λ i. elim (in-with mask k a i) [
+      subst (λ (x : ℕ). Shown m c n x (k + 1)) (sym e) (λ a. (
+        (λ i. elim (in-with mask k a i) [
           | inl old ↦ (let h = s a .0 old in let less = h .0 in (omega arith, h .1))
           | inr here ↦ (omega arith, ap (λ (x : ℕ). m .fact x c n) here ∙ f)
-          ])
-      , (λ h.
-          let less = h .0 in
-          elim (cases-eq a k) [
-          | inl here ↦ subst (λ (x : ℕ). x ∈ bitOr mask (2 ^ k)) (sym here) (with-has mask k)
-          | inr not-here ↦ in-or-left mask (2 ^ k) a (s a .1 (omega arith, h .1))
-          ])))
+        ]),
+        (λ h.
+            let less = h .0 in
+            elim (cases-eq a k) [
+              | inl here ↦ subst (λ (x : ℕ). x ∈ bitOr mask (2 ^ k)) (sym here) (with-has mask k)
+              | inr not-here ↦ in-or-left mask (2 ^ k) a (s a .1 (omega arith, h .1))
+            ]),
+      ))
 
   pub shown-without : (mask k : ℕ) → Shown m c n mask k → m .fact k c n ≡ false → Shown m c n mask (k + 1)
-  shown-without mask k s f a =
-      ( (λ i. let h = s a .0 i in let less = h .0 in (omega arith, h .1))
-      , (λ h.
-          let less = h .0 in
-          elim (cases-eq a k) [
+  shown-without mask k s f a = (
+    (λ i. let h = s a .0 i in let less = h .0 in (omega arith, h .1)),
+    (λ h.
+        let less = h .0 in
+        elim (cases-eq a k) [
           | inl here ↦ absurd (both-ways (m .fact k c n) f (ap (λ (x : ℕ). m .fact x c n) (sym here) ∙ h .1))
           | inr not-here ↦ s a .1 (omega arith, h .1)
-          ]))
+        ]),
+  )
 
   same-truth : (b t : Bool) → (b ≡ true → t ≡ true) → (t ≡ true → b ≡ true) → b ≡ t
   same-truth true t to from = sym (to refl)
@@ -52,9 +54,9 @@ module _ (m : Meaning) (c : ℕ) (n : Next) where
   -- the mask shows the facts
   pub shows : (mask k : ℕ) → Shown m c n mask k → Shows (facts-at m c n) k mask (is-last n)
   shows mask k s = record {
-      facts = λ a lt.
-          same-truth (m .fact a c n) (has mask a)
-          (λ f. elim (has? mask a) [ inl p ↦ p .0 | inr p ↦ absurd (p .1 (s a .1 (lt, f))) ])
-          (λ h. elim (has? mask a) [ inl p ↦ s a .0 (p .1) .1 | inr p ↦ absurd (both-ways (has mask a) (p .0) h) ]);
-      end = refl;
-    }
+    facts = λ a lt.
+        same-truth (m .fact a c n) (has mask a)
+        (λ f. elim (has? mask a) [ inl p ↦ p .0 | inr p ↦ absurd (p .1 (s a .1 (lt, f))) ])
+        (λ h. elim (has? mask a) [ inl p ↦ s a .0 (p .1) .1 | inr p ↦ absurd (both-ways (has mask a) (p .0) h) ]);
+    end = refl;
+  }

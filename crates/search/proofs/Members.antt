@@ -19,9 +19,10 @@ at-in e (x ∷ l) (inr i) = let r = at-in e l i in (suc (r .0), omega (arith, r 
 
 pub distinct-from : {X : Type 0} (l : List X) → ((i j : ℕ) (d : X) → i < j → j < length l → getD l i d ≡ getD l j d → ⊥) → Distinct l
 distinct-from [] apart = tt
-distinct-from (x ∷ l) apart =
-    ( (λ i. let r = at-in x l i in apart 0 (suc (r .0)) x (omega arith) (omega (arith, r .1)) (sym (r .2 x)))
-    , distinct-from l (λ i j d lij ljn same. apart (suc i) (suc j) d (omega arith) (omega arith) same))
+distinct-from (x ∷ l) apart = (
+  (λ i. let r = at-in x l i in apart 0 (suc (r .0)) x (omega arith) (omega (arith, r .1)) (sym (r .2 x))),
+  distinct-from l (λ i j d lij ljn same. apart (suc i) (suc j) d (omega arith) (omega arith) same),
+)
 
 -- lists of one length that agree from n on
 pub same-rest : {X : Type 0} (xs ys : List X) (n : ℕ) → length ys ≡ length xs → ((k : ℕ) (d : X) → n ≤ k → getD ys k d ≡ getD xs k d) → drop n ys ≡ drop n xs

@@ -22,17 +22,18 @@ module _ (rules : List ℕ) where
 
   pub first-more : (label k rule more : ℕ) → Has-first rules label k → rule ≡ getD rules k 0 → more ≡ bitOr label (2 ^ rule) → Has-first rules more (k + 1)
   first-more label k rule more s is e =
-      subst (λ (x : ℕ). Has-first rules x (k + 1)) (sym e) (λ f.
-      ( (λ i. elim (in-with label rule f i) [
+      subst (λ (x : ℕ). Has-first rules x (k + 1)) (sym e) (λ f. (
+        (λ i. elim (in-with label rule f i) [
           | inl old ↦ (let h = s f .0 old in (h .0, omega (arith, h .1), h .2))
           | inr here ↦ (k, omega arith, sym is ∙ sym here)
-          ])
-      , (λ h.
-          elim (cases-eq (h .0) k) [
-          | inl here ↦
-              subst (λ (x : ℕ). x ∈ bitOr label (2 ^ rule)) (is ∙ ap (λ (i : ℕ). getD rules i 0) (sym here) ∙ h .2) (with-has label rule)
-          | inr not-here ↦ in-or-left label (2 ^ rule) f (s f .1 (h .0, omega (arith, h .1, not-here), h .2))
-          ])))
+        ]),
+        (λ h.
+            elim (cases-eq (h .0) k) [
+              | inl here ↦
+                  subst (λ (x : ℕ). x ∈ bitOr label (2 ^ rule)) (is ∙ ap (λ (i : ℕ). getD rules i 0) (sym here) ∙ h .2) (with-has label rule)
+              | inr not-here ↦ in-or-left label (2 ^ rule) f (s f .1 (h .0, omega (arith, h .1, not-here), h .2))
+            ]),
+      ))
 
 among-at : (rules : List ℕ) (f : ℕ) → Among f rules → (i : ℕ) × (i < length rules) × (getD rules i 0 ≡ f)
 among-at [] f a = absurd a
@@ -45,6 +46,7 @@ at-among (g ∷ gs) f zero lt e = inl (sym e)
 at-among (g ∷ gs) f (suc i) lt e = inr (at-among gs f i (omega arith) e)
 
 pub first-all : (rules : List ℕ) (label k : ℕ) → length rules ≤ k → k ≤ length rules → Has-first rules label k → (f : ℕ) → (f ∈ label) ↔ Among f rules
-first-all rules label k hi lo s f =
-    ( (λ i. let h = s f .0 i in at-among rules f (h .0) (omega (arith, h .1)) (h .2))
-    , (λ a. let h = among-at rules f a in s f .1 (h .0, omega (arith, h .1), h .2)))
+first-all rules label k hi lo s f = (
+  (λ i. let h = s f .0 i in at-among rules f (h .0) (omega (arith, h .1)) (h .2)),
+  (λ a. let h = among-at rules f a in s f .1 (h .0, omega (arith, h .1), h .2)),
+)

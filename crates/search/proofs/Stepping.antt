@@ -64,11 +64,12 @@ module _ (m : Meaning) (b : Contents) (s : Position) (place n truth : ℕ)
     pub overfull-steps : (p : Position) → Labelled-or other place n cells (length cells) p → Steps-from m b s place n p
     unfolding other
     overfull-steps p (inl (at, is, i)) = (at, is, hands (p .label) (full .only (facts-at m (s .code) (Code n)) here (p .label) i))
-    overfull-steps p (inr e) =
-        ( ap (λ (x : Position). x .place) e
-        , ap (λ (x : Position). x .code) e
-        , subst (λ (L : Label). Hands-on (facts-at m (s .code) (Code n)) b (s .label) L) (sym (ap (λ (x : Position). x .label) e))
-          (hands other (full .another (facts-at m (s .code) (Code n)) here .1)))
+    overfull-steps p (inr e) = (
+      ap (λ (x : Position). x .place) e,
+      ap (λ (x : Position). x .code) e,
+      subst (λ (L : Label). Hands-on (facts-at m (s .code) (Code n)) b (s .label) L) (sym (ap (λ (x : Position). x .label) e))
+          (hands other (full .another (facts-at m (s .code) (Code n)) here .1)),
+    )
 
 -- what a pattern says of the cells
 pub pattern-next : (b : Contents) (L : Label) (truth : ℕ) (cells : List (Cell NextLabel)) (p : Pattern) → Patterned b L truth cells (Some p)
@@ -126,7 +127,7 @@ module _ (q : Question) where
   starts-some L v rules allowed p s =
       let at = allowed .2 (p .code) .0 (s .code-is) in
       let named : p .label ≡ L =
-          same-members (p .label) L (λ f. ((λ i. rules f .1 (s .label-is f .0 i)), (λ i. s .label-is f .1 (rules f .0 i)))) in
+      same-members (p .label) L (λ f. ((λ i. rules f .1 (s .label-is f .0 i)), (λ i. s .label-is f .1 (rules f .0 i)))) in
       (p .code, at .0, at .1, by-parts p 0 L (p .code) (s .place-is) named refl)
 
   module _ (s : Position) (v : Visits) (allowed : Allowed (q .meaning .codes) (q .kept) (suc (s .place)) v)
@@ -152,6 +153,7 @@ module _ (q : Question) where
   ends-decided s truth r at fits shown decides =
       let w = facts-at (q .meaning) (s .code) Last in
       let d = subst (λ (L : Label). Decides r (Some-sound w (q .book) L)) (sym (known-whole (q .book) (s .label) fits))
-          (decides w (shows (q .meaning) (s .code) Last truth (q .book .atoms) shown)) in
-      ( (λ e. let x = d .0 e in record { at-last-place = at; choice = x .0; sound = x .1 })
-      , (λ x. d .1 (x .choice, x .sound)))
+      (decides w (shows (q .meaning) (s .code) Last truth (q .book .atoms) shown)) in (
+        (λ e. let x = d .0 e in record { at-last-place = at; choice = x .0; sound = x .1 }),
+        (λ x. d .1 (x .choice, x .sound)),
+      )

@@ -20,11 +20,20 @@ visited-kept codes (k ∷ ks) zero c h = ((λ v. v), (λ v. v))
 visited-kept codes (k ∷ ks) (suc p) c h = visited-kept codes ks p c (omega arith)
 
 pub allowed-past : (codes : ℕ) (kept : List ℕ) (p : ℕ) → length kept ≤ p → Allowed codes kept p (record { first = 0; end = codes })
-allowed-past codes kept p h = (omega arith, omega arith, λ c.
-    ((λ v. (omega arith, visited-past codes kept p c h .0 v)), (λ v. visited-past codes kept p c h .1 (v .1))))
+allowed-past codes kept p h = (
+  omega arith,
+  omega arith,
+  λ c.
+      ((λ v. (omega arith, visited-past codes kept p c h .0 v)), (λ v. visited-past codes kept p c h .1 (v .1))),
+)
 
 pub allowed-kept : (codes : ℕ) (kept : List ℕ) (p : ℕ) → p < length kept → getD kept p 0 < codes
     → Allowed codes kept p (record { first = getD kept p 0; end = getD kept p 0 + 1 })
-allowed-kept codes kept p h k = (omega arith, omega arith, λ c.
-    ( (λ v. let e : c ≡ getD kept p 0 = visited-kept codes kept p c h .0 v in (omega arith, omega arith))
-    , (λ v. visited-kept codes kept p c h .1 (omega (arith, v .0, v .1)))))
+allowed-kept codes kept p h k = (
+  omega arith,
+  omega arith,
+  λ c. (
+    (λ v. let e : c ≡ getD kept p 0 = visited-kept codes kept p c h .0 v in (omega arith, omega arith)),
+    (λ v. visited-kept codes kept p c h .1 (omega (arith, v .0, v .1))),
+  ),
+)

@@ -34,7 +34,11 @@ fn next_place(kept: &[u16], place: u16) -> u16
     ensures { λ r. ⌜ r ≡ min (suc place) (pred (length (now (kept .entry)))) ⌝ }
 {
     let last = last_place(kept);
-    if usize::from(place) < last { place + 1 } else { last as u16 }
+    if usize::from(place) < last {
+        place + 1
+    } else {
+        last as u16
+    }
 }
 
 pub(crate) impl<T: Theory> Space for Asked<'_, '_, '_, T> as AskedSpace {
@@ -53,9 +57,30 @@ pub(crate) impl<T: Theory> Space for Asked<'_, '_, '_, T> as AskedSpace {
         enter_starts(rows, rules_label(self.book), visits)
     }
 
-    fn expand(&self, row: Row, from: u32, rows: &mut [Cell<Row>], filled: usize, labels: &mut [Cell<NextLabel>]) -> Option<usize> {
+    fn expand(
+        &self,
+        row: Row,
+        from: u32,
+        rows: &mut [Cell<Row>],
+        filled: usize,
+        labels: &mut [Cell<NextLabel>],
+    ) -> Option<usize> {
         let visits = visits_at(self.theory.code_count(), self.kept, row.place as usize + 1);
-        let visit = Row { place: next_place(self.kept, row.place), code: 0, label: 0, from };
-        expand_codes(self.theory, self.book, row, visit, visits, rows, filled, labels)
+        let visit = Row {
+            place: next_place(self.kept, row.place),
+            code: 0,
+            label: 0,
+            from,
+        };
+        expand_codes(
+            self.theory,
+            self.book,
+            row,
+            visit,
+            visits,
+            rows,
+            filled,
+            labels,
+        )
     }
 }

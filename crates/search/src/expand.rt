@@ -40,10 +40,19 @@ pub(crate) fn expand_codes<T: Theory>(
     ensures { λ r. ⌜ Spread (λ e. e .from ≡ visit .from) (Some-of (Steps-from (T·Theory .meaning (now (theory .entry))) (book-contents (now (book .entry))) (position row) (visit .place)) (visits .first) (visits .end)) (now (rows .entry)) (now (rows .exit)) filled r ⌝ }
 {
     let mut filled = filled;
-    let mut known = Pattern { set: false, truth: 0, count: 0 };
+    let mut known = Pattern {
+        set: false,
+        truth: 0,
+        count: 0,
+    };
     for code in visits.first..visits.end {
         let truth = truth_at(theory, book.atom_count(), row.code, Next::Code(code));
-        let at = Row { place: visit.place, code, label: 0, from: visit.from };
+        let at = Row {
+            place: visit.place,
+            code,
+            label: 0,
+            from: visit.from,
+        };
         let Some(pattern) = labels_for(book, row.label, truth, cells, known) else {
             fill_up(rows, filled, at, cells);
             return None;

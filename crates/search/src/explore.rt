@@ -15,7 +15,12 @@ use intern::Cell;
 use successors::NextLabel;
 
 /// Answers the question of a space, and shows a shortest history where there is one.
-pub(crate) fn explore<S: Space>(space: &S, rows: &mut [Cell<Row>], history: &mut [u16], labels: &mut [Cell<NextLabel>]) -> Outcome
+pub(crate) fn explore<S: Space>(
+    space: &S,
+    rows: &mut [Cell<Row>],
+    history: &mut [u16],
+    labels: &mut [Cell<NextLabel>],
+) -> Outcome
     requires ready { ⌜ Ready (S·Space .question (now space)) ⌝ }
     requires room { ⌜ Room (now rows) (now labels) ⌝ }
     requires list { ⌜ length (now rows) ≤ length (now history) ⌝ }
@@ -26,7 +31,10 @@ pub(crate) fn explore<S: Space>(space: &S, rows: &mut [Cell<Row>], history: &mut
     match by_layers(space, rows, labels) {
         Found::Can(row, filled, depth) => {
             read_back(rows, rows[row].item, depth, history);
-            Outcome::Can { length: depth + 1, rows: filled }
+            Outcome::Can {
+                length: depth + 1,
+                rows: filled,
+            }
         }
         Found::Cannot(filled) => Outcome::Cannot { rows: filled },
         Found::Short(_) => Outcome::Short { rows: rows.len() },

@@ -27,7 +27,13 @@ pub(crate) struct Pattern {
 /// The next labels of a label where the atoms of `truth` hold, in the cells; those that are there serve again.
 ///
 /// `None` where they outnumber the cells.
-pub(crate) fn labels_for(book: &Book, label: u64, truth: u32, cells: &mut [Cell<NextLabel>], known: Pattern) -> Option<Pattern>
+pub(crate) fn labels_for(
+    book: &Book,
+    label: u64,
+    truth: u32,
+    cells: &mut [Cell<NextLabel>],
+    known: Pattern,
+) -> Option<Pattern>
     requires { ⌜ length (now cells) ≤ 2 ^ 32 ⌝ ∗ ⌜ Known (book-contents (now book)) label (now cells) known ⌝ }
     ensures { λ r. ⌜ Patterned (book-contents (now (book .entry))) label truth (now (cells .exit)) r ⌝ }
 {
@@ -35,7 +41,11 @@ pub(crate) fn labels_for(book: &Book, label: u64, truth: u32, cells: &mut [Cell<
         return Some(known);
     }
     match next_labels(book, label, truth, false, cells) {
-        Some(count) => Some(Pattern { set: true, truth, count }),
+        Some(count) => Some(Pattern {
+            set: true,
+            truth,
+            count,
+        }),
         None => None,
     }
 }
@@ -43,13 +53,24 @@ pub(crate) fn labels_for(book: &Book, label: u64, truth: u32, cells: &mut [Cell<
 /// Enters the positions of a place and a code with the first `count` labels of the cells.
 ///
 /// `None` where a row is wanted and none is left.
-pub(crate) fn enter_labels(rows: &mut [Cell<Row>], filled: usize, visit: Row, cells: &[Cell<NextLabel>], count: usize) -> Option<usize>
+pub(crate) fn enter_labels(
+    rows: &mut [Cell<Row>],
+    filled: usize,
+    visit: Row,
+    cells: &[Cell<NextLabel>],
+    count: usize,
+) -> Option<usize>
     requires { ⌜ length (now rows) ≤ 2 ^ 32 ⌝ ∗ ⌜ Indexed-rows (now rows) filled ⌝ ∗ ⌜ count ≤ length (now cells) ⌝ }
     ensures { λ r. ⌜ Spread (λ e. e .from ≡ visit .from) (Labelled (visit .place) (visit .code) (now (cells .entry)) count) (now (rows .entry)) (now (rows .exit)) filled r ⌝ }
 {
     let mut filled = filled;
     for i in 0..count {
-        let row = Row { place: visit.place, code: visit.code, label: cells[i].item.formulas, from: visit.from };
+        let row = Row {
+            place: visit.place,
+            code: visit.code,
+            label: cells[i].item.formulas,
+            from: visit.from,
+        };
         let Some(more) = enter(rows, filled, row) else {
             return None;
         };

@@ -40,7 +40,12 @@ pub(crate) fn enter(rows: &mut [Cell<Row>], filled: usize, row: Row) -> Option<u
 }
 
 /// The first row of rows[start..end) whose position ends.
-pub(crate) fn first_end<S: Space>(space: &S, rows: &[Cell<Row>], start: usize, end: usize) -> Option<usize>
+pub(crate) fn first_end<S: Space>(
+    space: &S,
+    rows: &[Cell<Row>],
+    start: usize,
+    end: usize,
+) -> Option<usize>
     requires ready { ⌜ Ready (S·Space .question (now space)) ⌝ }
     requires span { ⌜ start ≤ end ⌝ ∗ ⌜ end ≤ length (now rows) ⌝ }
     requires bounded { ⌜ All-bounded (S·Space .question (now space)) (now rows) start end ⌝ }
@@ -55,7 +60,13 @@ pub(crate) fn first_end<S: Space>(space: &S, rows: &[Cell<Row>], start: usize, e
 }
 
 /// Enters behind rows[..end) what rows[start..end) step to; `None` where a row is wanted and none is left.
-pub(crate) fn expand_layer<S: Space>(space: &S, rows: &mut [Cell<Row>], start: usize, end: usize, labels: &mut [Cell<NextLabel>]) -> Option<usize>
+pub(crate) fn expand_layer<S: Space>(
+    space: &S,
+    rows: &mut [Cell<Row>],
+    start: usize,
+    end: usize,
+    labels: &mut [Cell<NextLabel>],
+) -> Option<usize>
     requires ready { ⌜ Ready (S·Space .question (now space)) ⌝ }
     requires span { ⌜ start ≤ end ⌝ }
     requires room { ⌜ Room (now rows) (now labels) ⌝ }
@@ -78,7 +89,11 @@ pub(crate) fn expand_layer<S: Space>(space: &S, rows: &mut [Cell<Row>], start: u
 }
 
 /// Enters the positions up to the least distance at which one ends, or all that steps lead to.
-pub(crate) fn by_layers<S: Space>(space: &S, rows: &mut [Cell<Row>], labels: &mut [Cell<NextLabel>]) -> Found
+pub(crate) fn by_layers<S: Space>(
+    space: &S,
+    rows: &mut [Cell<Row>],
+    labels: &mut [Cell<NextLabel>],
+) -> Found
     requires ready { ⌜ Ready (S·Space .question (now space)) ⌝ }
     requires room { ⌜ Room (now rows) (now labels) ⌝ }
     ensures { λ r. ⌜ Searched (Starts (S·Space .question (now (space .entry)))) (Step (S·Space .question (now (space .entry)))) (Ends (S·Space .question (now (space .entry)))) (now (rows .entry)) (now (rows .exit)) r ⌝ }

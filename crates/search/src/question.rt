@@ -38,7 +38,13 @@ fn same_counts<T: Theory>(theory: &T, book: &Book) -> bool
 /// Checks that a question can be searched.
 ///
 /// Errors: those of `search`.
-fn check<T: Theory>(theory: &T, book: &Book, kept: &[u16], rows: usize, entries: usize) -> Result<(), Refusal>
+fn check<T: Theory>(
+    theory: &T,
+    book: &Book,
+    kept: &[u16],
+    rows: usize,
+    entries: usize,
+) -> Result<(), Refusal>
     ensures { λ r. ⌜ r ≡ search-check (T·Theory .meaning (now (theory .entry))) (book-contents (now (book .entry))) (now (kept .entry)) rows entries ⌝ }
 {
     if book.atom_count() > 32 {
@@ -70,7 +76,13 @@ fn check<T: Theory>(theory: &T, book: &Book, kept: &[u16], rows: usize, entries:
 /// Errors: 1 for a book of over 32 atoms, which no draft takes, else 7 where the counts of codes or atoms of book and theory
 /// differ, else 8 for over 65,536 kept visits or one that is no code, else 9 for over 65,536 rows or a history list shorter
 /// than the rows; rows and history are unchanged.
-pub fn search<T: Theory>(theory: &T, book: &Book, kept: &[u16], rows: &mut [Cell<Row>], history: &mut [u16]) -> Result<Outcome, Refusal>
+pub fn search<T: Theory>(
+    theory: &T,
+    book: &Book,
+    kept: &[u16],
+    rows: &mut [Cell<Row>],
+    history: &mut [u16],
+) -> Result<Outcome, Refusal>
     ensures answer { λ r. ⌜ r ≡ search-answer (T·Theory .meaning (now (theory .entry))) (book-contents (now (book .entry))) (now (kept .entry)) (length (now (rows .entry))) (length (now (history .entry))) ⌝ }
     ensures rows { λ r. ⌜ Rows-after (asked (T·Theory .meaning (now (theory .entry))) (book-contents (now (book .entry))) (now (kept .entry))) (now (rows .entry)) (now (rows .exit)) r ⌝ }
     ensures history { λ r. ⌜ History-after (asked (T·Theory .meaning (now (theory .entry))) (book-contents (now (book .entry))) (now (kept .entry))) (now (history .entry)) (now (history .exit)) r ⌝ }

@@ -30,7 +30,14 @@ pub(crate) trait Space {
 
     /// Enters behind the first `filled` rows what `row`, the row `from`, steps to, and says how many are filled then;
     /// `None` where a row is wanted and none is left.
-    fn expand(&self, row: Row, from: u32, rows: &mut [Cell<Row>], filled: usize, labels: &mut [Cell<NextLabel>]) -> Option<usize>
+    fn expand(
+        &self,
+        row: Row,
+        from: u32,
+        rows: &mut [Cell<Row>],
+        filled: usize,
+        labels: &mut [Cell<NextLabel>],
+    ) -> Option<usize>
         requires ready { ⌜ Ready (question (now self)) ⌝ }
         requires bounded { ⌜ Bounded (question (now self)) (position row) ⌝ }
         requires room { ⌜ Room (now rows) (now labels) ⌝ }

@@ -16,7 +16,12 @@ pub(crate) fn enter_starts(rows: &mut [Cell<Row>], label: u64, visits: Visits) -
 {
     let mut filled = 0;
     for code in visits.first..visits.end {
-        let row = Row { place: 0, code, label, from: 0 };
+        let row = Row {
+            place: 0,
+            code,
+            label,
+            from: 0,
+        };
         let Some(more) = enter(rows, filled, row) else {
             return None;
         };

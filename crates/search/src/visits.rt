@@ -17,10 +17,16 @@ pub(crate) fn visits_at(codes: u16, kept: &[u16], place: usize) -> Visits
     ensures { λ r. ⌜ Allowed codes (now (kept .entry)) place r ⌝ }
 {
     if place >= kept.len() {
-        return Visits { first: 0, end: codes };
+        return Visits {
+            first: 0,
+            end: codes,
+        };
     }
     let code = kept[place];
-    Visits { first: code, end: code + 1 }
+    Visits {
+        first: code,
+        end: code + 1,
+    }
 }
 
 /// The last place: the number of kept visits less one, or 0 where nothing is kept.

@@ -12,11 +12,12 @@ use Rattle.search.proofs.Stepping.{pattern-next, code-more, code-short, code-f
 use Rattle.search.proofs.expand.expand_codes.Needs as need
 
 pub loop-code-holds : need.loop-code-holds
-loop-code-holds g c =
-    ( collected-none (λ e. e .from ≡ c .args .visit .from)
+loop-code-holds g c = (
+  collected-none (λ e. e .from ≡ c .args .visit .from)
       (Steps-from (g .T·Theory .meaning (c .args .theory .now)) (book-contents (c .args .book .now)) (position (c .args .row)) (c .args .visit .place))
-      (c .args .visits .first) _ _ (rows-within _ _ (c .pre .indexed)) (c .pre .indexed)
-    , λ set. absurd (both-ways false refl set))
+      (c .args .visits .first) _ _ (rows-within _ _ (c .pre .indexed)) (c .pre .indexed),
+  λ set. absurd (both-ways false refl set),
+)
 
 pub labels-for-requires : need.labels-for-requires
 labels-for-requires g c κs = (omega (arith, c .pre .room .1, c .loop-code .kept .cells), c .loop-code .inv .1)
@@ -32,17 +33,19 @@ fill-up-requires g c κs =
 pub enter-labels-requires : need.enter-labels-requires
 enter-labels-requires g c κs =
     let rows = c .loop-code .kept .rows in
-    let room = c .pre .room in
-    ( omega (arith, room .0, room .1)
-    , (c .loop-code .inv .0 .0 .indexed, pattern-next (book-contents (c .args .book .now)) _ _ _ _ (c .in-Some .ensures tt) .0))
+    let room = c .pre .room in (
+      omega (arith, room .0, room .1),
+      (c .loop-code .inv .0 .0 .indexed, pattern-next (book-contents (c .args .book .now)) _ _ _ _ (c .in-Some .ensures tt) .0),
+    )
 
 pub loop-code-again : need.loop-code-again
 loop-code-again g c =
     let m = g .T·Theory .meaning (c .args .theory .now) in
-    let shown = subst (Shown m (c .args .row .code) (Code (c .loop-code .code)) (c .truth-at-truth .result)) (c .atom-count .ensures) (c .truth-at-truth .ensures) in
-    ( code-more (c .args .visit .from) m (book-contents (c .args .book .now)) (position (c .args .row)) (c .args .visit .place) (c .args .visits .first) (c .loop-code .code) _
-      (c .pre .known) shown _ _ _ _ _ _ (c .loop-code .kept .code) (c .loop-code .inv .0) _ _ (c .in-Some .ensures tt) (c .in-Some-enter-labels .ensures tt)
-    , c .in-Some .ensures tt .2)
+    let shown = subst (Shown m (c .args .row .code) (Code (c .loop-code .code)) (c .truth-at-truth .result)) (c .atom-count .ensures) (c .truth-at-truth .ensures) in (
+      code-more (c .args .visit .from) m (book-contents (c .args .book .now)) (position (c .args .row)) (c .args .visit .place) (c .args .visits .first) (c .loop-code .code) _
+          (c .pre .known) shown _ _ _ _ _ _ (c .loop-code .kept .code) (c .loop-code .inv .0) _ _ (c .in-Some .ensures tt) (c .in-Some-enter-labels .ensures tt),
+      c .in-Some .ensures tt .2,
+    )
 
 pub returns-in-rest : need.returns-in-rest
 returns-in-rest g c =

@@ -42,9 +42,10 @@ returns-in-rest-expand-layer g c =
     (c .in-rest-expand-layer .ensures tt)
 
 pub layers-again : need.layers-again
-layers-again g c =
-    ( omega (arith, c .in-Some-expand-layer .ensures tt .0 .rises)
-    , level-next _ _ _ _ _ _ _ _ _ _ (c .layers-test .taken) (c .layers .inv .1) (c .in-rest-first-end .ensures tt) (c .in-Some-expand-layer .ensures tt))
+layers-again g c = (
+  omega (arith, c .in-Some-expand-layer .ensures tt .0 .rises),
+  level-next _ _ _ _ _ _ _ _ _ _ (c .layers-test .taken) (c .layers .inv .1) (c .in-rest-first-end .ensures tt) (c .in-Some-expand-layer .ensures tt),
+)
 
 pub returns : need.returns
 returns g c =

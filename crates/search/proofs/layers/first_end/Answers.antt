@@ -12,10 +12,11 @@ finish-requires g c κs = record { ready = c .pre .ready; bounded = c .pre .boun
 
 pub returns-then-finish : need.returns-then-finish
 returns-then-finish g c =
-    let lt : c .loop-i .i < length (c .args .rows .now) = omega arith in
-    ( omega arith
-    , omega arith
-    , λ d. subst (Ends (g .S·Space .question (c .args .space .now))) (sym (here (c .args .rows .now) (c .loop-i .i) _ lt d)) (c .if-finish .ensures tt .0 refl))
+    let lt : c .loop-i .i < length (c .args .rows .now) = omega arith in (
+      omega arith,
+      omega arith,
+      λ d. subst (Ends (g .S·Space .question (c .args .space .now))) (sym (here (c .args .rows .now) (c .loop-i .i) _ lt d)) (c .if-finish .ensures tt .0 refl),
+    )
 
 pub loop-i-again : need.loop-i-again
 loop-i-again g c =
