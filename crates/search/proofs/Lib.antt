@@ -1,0 +1,15 @@
+pub mod Same
+pub mod Entering
+pub mod Lists
+pub mod Levels
+pub mod Bounds
+pub mod Backward
+pub mod Members
+pub mod Answering
+pub mod Masking
+pub mod Visiting
+pub mod Families
+pub mod Listing
+pub mod Ruling
+pub mod Stepping
+pub mod Checked
