@@ -1,5 +1,7 @@
 // What a report shows of a judgement and of an answered question. Rests on `judge`, `search` and `report`.
 // Promises: each is what the definition in specs/ says of the answer.
+#![tactic(auto)]
+
 ghost use Rattle.std.specs.Prelude.{◌≡◌, take};
 ghost use Rattle.answer.specs.Shown.{standing_of, verdict_of, rows_of, shown};
 

@@ -2,6 +2,8 @@
 // Rests on `refusal`, `writer`, `theory`, `intern` and `names`.
 // Promises: the facts are those of the names and atoms that were filled in, every filling keeps the limits,
 // and a code is printed as its bits, which tell the code.
+#![tactic(auto)]
+
 mod fill;
 mod flags;
 mod holds;

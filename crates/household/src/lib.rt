@@ -2,6 +2,8 @@
 // Rests on `record`, `judge` and `search`.
 // Promises: `stands` and `question` answer as the definitions of specs/ say, for every argument; `replay` carries the law that
 // a record follows the plain record, and every question what histories there are.
+#![tactic(auto)]
+
 mod asking;
 mod call;
 mod check;

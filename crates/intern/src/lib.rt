@@ -1,6 +1,8 @@
 // Finding an equal record among cells, or adding it, once and for every kind of record. Rests on nothing.
 // The cells' own links are a digital search tree: at each cell the next bit of the record's key says which link to follow.
 // Promises: the answers are those of the walk in specs/ for all cells; of indexed cells, those of a scan from the first cell.
+#![tactic(auto)]
+
 mod cell;
 mod descent;
 mod keyed;

@@ -1,5 +1,7 @@
 // Items and lines of a text: each reader takes the front of a text and gives what it read and the rest. Rests on nothing.
 // Promises: a number or a name is read exactly where one is written; a trailer is read exactly where it points back to starts of lines.
+#![tactic(auto)]
+
 mod lines;
 mod names;
 mod numbers;

@@ -1,6 +1,8 @@
 // Formulas of LTL over finite traces, the draft that takes them and the book that a draft is sealed into.
 // Rests on `refusal` and `intern`.
 // Promises: each call leaves what the definitions of specs/ say, for every argument; a book is always proper.
+#![tactic(auto)]
+
 mod book;
 mod draft;
 mod key;

@@ -2,6 +2,8 @@
 // Rests on `refusal`, `writer`, `theory`, `intern` and `names`.
 // Promises: the facts are those of the variables and atoms that were filled in, every filling keeps the limits,
 // and a code is printed as its values, which tell the code.
+#![tactic(auto)]
+
 mod atom;
 mod fill;
 mod grid;

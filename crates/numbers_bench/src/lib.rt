@@ -1,5 +1,7 @@
 // What the benchmark of `holds` calls: the facts of a numbers theory, counted. Rests on `refusal`, `theory` and `numbers`.
 // Promises: a count is the number of pairs of codes at which the theory's `holds` answers yes.
+#![tactic(auto)]
+
 ghost use Rattle.std.specs.Prelude.{◌≡◌, ◌*◌, ◌≤◌};
 ghost use Rattle.numbers.specs.Model.{numbers_of, numbers_meaning};
 ghost use Rattle.numbers.specs.declared.numbers.Numbers.{Numbers};

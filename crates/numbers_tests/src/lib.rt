@@ -1,4 +1,6 @@
 // Examples of the numbers theory, one test to a claim. Rests on `refusal`, `theory` and `numbers`.
+#![tactic(auto)]
+
 #[cfg(test)]
 mod tests {
     use numbers::{Comparison, Moment, Numbers, Term};

@@ -2,6 +2,8 @@
 // Rests on `refusal` and `ltlf`.
 // Promises: each call answers and leaves what the definitions of specs/ say, for every argument; a record keeps at most
 // 1,024 visits; a sync that is let go without an ending does not compile.
+#![tactic(auto)]
+
 mod keeping;
 mod noting;
 mod read;

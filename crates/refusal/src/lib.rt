@@ -1,5 +1,7 @@
 // Why a call or a sheet is refused. Rests on nothing.
 // Promises: each case has the number, and the place, that the table in specs/ gives it.
+#![tactic(auto)]
+
 ghost use Rattle.std.specs.Prelude.{◌≡◌};
 ghost use Rattle.refusal.specs.Numbers.{number_of, fill_number, sheet_number, sheet_place};
 

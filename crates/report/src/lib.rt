@@ -1,5 +1,7 @@
 // The lines that a report is made of, each written into the caller's bytes. Rests on `refusal`, `writer` and `theory`.
 // Promises: a line is the text that specs/ gives it; bytes past its length stay; 9 for too few bytes, which stay.
+#![tactic(auto)]
+
 mod append;
 mod kept;
 mod noted;

@@ -2,6 +2,8 @@
 // Rests on `judge` for what a formula means, and on `formula_text` and `sheet_text` for how rules are read.
 // Promises: the draft of an accepted sheet is met by a history exactly when every rule of the sheet, as it is written, holds at its first visit.
 // Each function stands for a theorem, which is its contract.
+#![tactic(auto)]
+
 mod laws;
 mod tried;
 

@@ -3,6 +3,8 @@
 // Rests on `intern` for the rows, `successors` and `viability` for the steps, `tableau` for what a position is.
 // Promises: `search` answers as the definitions say, for every argument; the rows hold the counted positions, each once;
 // the history shown is a shortest one.
+#![tactic(auto)]
+
 mod asked;
 mod expand;
 mod explore;

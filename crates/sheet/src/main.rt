@@ -1,5 +1,7 @@
 // The program `sheet`: a sheet from standard input, its report on standard output.
 // It holds no logic of its own: public calls read the sheet, judge its notes and make every line.
+#![tactic(auto)]
+
 ghost use Rattle.std.specs.Prelude.{◌≡◌};
 ghost use Rattle.sheet.specs.Standing.{standing_of};
 

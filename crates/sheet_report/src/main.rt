@@ -1,5 +1,7 @@
 // The program `sheet_report`: a sheet from standard input, its whole report on standard output.
 // It holds no logic of its own: public calls read the sheet, keep its notes, judge them, ask the question and make every line.
+#![tactic(auto)]
+
 use answer::{history_of, rows_of, standing_of, verdict_of};
 use flags::Flags;
 use household::{question, stands};

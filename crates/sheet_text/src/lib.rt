@@ -1,6 +1,8 @@
 // Sheets: the text of flags or numbers, atoms, rules and notes, read into a draft, a theory and a visit list.
 // Rests on `refusal`, `theory`, `flags`, `numbers`, `ltlf`, `items`, `formula_text` and `number_text`.
 // Promises: what a sheet answers and leaves is what the definition in specs/ says, for every text, refusals included.
+#![tactic(auto)]
+
 mod heading;
 mod notes;
 mod number_opening;

@@ -1,6 +1,8 @@
 // The next labels that the sound choices of a label hand on, each entered once into the caller's cells.
 // Rests on `intern`, `ltlf`, `tableau` and `viability`.
 // Promises: every next label of a sound choice and no other, each once, or that the cells are full.
+#![tactic(auto)]
+
 mod expand;
 mod label;
 mod sink;

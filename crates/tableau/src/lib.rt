@@ -2,6 +2,8 @@
 // Rests on `theory`, `ltlf` and `judge`.
 // Promises: what holds of histories of all lengths is found by a finite search of positions, layer by layer.
 // Each function stands for a theorem, which is its contract.
+#![tactic(auto)]
+
 mod answers;
 mod distances;
 mod numbers;

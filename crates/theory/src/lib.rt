@@ -1,5 +1,7 @@
 // What a theory is: codes, atoms, and the facts, which say where an atom holds. Rests on `refusal` and `writer`.
 // Promises: each call of every theory answers by its meaning, refusals included.
+#![tactic(auto)]
+
 mod next;
 mod print;
 

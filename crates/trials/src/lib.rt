@@ -1,6 +1,8 @@
 // The sheets that were tried by hand, from their bytes to what their questions come to.
 // Rests on `sheet_text` for reading and on `household` for questions, and on what those rest on.
 // Promises: each of the twelve sheets is accepted, and its question comes out as the list in specs/ says.
+#![tactic(auto)]
+
 ghost use Rattle.std.specs.Prelude.{◌≡◌};
 ghost use Rattle.trials.specs.Trials.{trials, outcome_at, TrialsComeOut};
 

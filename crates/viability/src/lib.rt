@@ -1,6 +1,8 @@
 // Which formulas of a book have a sound expansion at a visit, from the atoms that hold there and whether it is the last.
 // Rests on `theory`, `ltlf`, `judge` and `tableau`.
 // Promises: a label has a sound choice exactly when it lies inside the viable formulas.
+#![tactic(auto)]
+
 mod formulas;
 mod labels;
 mod offer;

@@ -1,5 +1,7 @@
 // Texts and numbers written into the caller's bytes. Rests on nothing.
 // Promises: what fits is written whole and nothing else is touched; what does not fit writes nothing.
+#![tactic(auto)]
+
 ghost use Rattle.std.specs.Prelude.{◌≡◌, ◌+◌, ◌≤◌, length, decimal};
 ghost use Rattle.std.specs.Fmt.{signed_decimal};
 ghost use Rattle.writer.specs.Puts.{put_at, put_answer, put_leaves};
