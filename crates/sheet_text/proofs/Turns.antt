@@ -30,7 +30,7 @@ module _ {S : Type 0} (read : S → List ℕ → Option S) where
       moved : 0 < length rest → end - length text + length line + 1 ≡ end - length rest
       moved more =
           let left-size = ap length left ∙ length-drop (line_length text + 1) text in
-          let line-size = ap length cut ∙ length-take-le (line_length text) text (omega arith) in
+          let line_size = ap length cut ∙ length-take-le (line_length text) text (omega arith) in
           omega arith
 
       pub turn_wrong : None ≡ read s line → Err (end - length text) ≡ goal

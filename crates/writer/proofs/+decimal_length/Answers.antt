@@ -10,4 +10,4 @@ pub returns : goal.returns
 returns t c =
     let more = length_step c.args.n c.if-n-lt10.false (omega arith) in
     let all = length-decimal-le 20 c.args.n (omega arith) (omega arith) (omega arith) in
-    record { count = omega (arith, c.decimal-length.ensures.count); few = omega (arith, c.decimal-length.ensures.count) }
+    record { count = omega (arith, c.decimal_length.ensures.count); few = omega (arith, c.decimal_length.ensures.count) }

@@ -10,8 +10,8 @@ returns-then-n-lt10 t c =
     let one = length_digit c.args.n c.if-n-lt10.true in
     record { end = omega arith; after = put_digit c.args.out.now c.args.at c.args.n c.if-n-lt10.true c.requires }
 
-pub write-decimal-place-requires : goal.write-decimal-place-requires
-write-decimal-place-requires t c = let more = length_step c.args.n c.if-n-lt10.false (omega arith) in (search rules, omega arith)
+pub write_decimal-place-requires : goal.write_decimal-place-requires
+write_decimal-place-requires t c = let more = length_step c.args.n c.if-n-lt10.false (omega arith) in (search rules, omega arith)
 
 pub bounds-out-place : goal.bounds-out-place
 bounds-out-place t c = let more = length_step c.args.n c.if-n-lt10.false (omega arith) in search rules
@@ -23,6 +23,6 @@ pub returns : goal.returns
 returns t c =
     let more = length_step c.args.n c.if-n-lt10.false (omega arith) in
     record {
-      end = omega (arith, c.write-decimal-place.ensures.end);
-      after = put_step c.args.out.now c.write-decimal-place.new.out c.args.at c.write-decimal-place.result c.args.n c.if-n-lt10.false (omega arith) c.requires c.write-decimal-place.ensures.after c.write-decimal-place.ensures.end;
+      end = omega (arith, c.write_decimal-place.ensures.end);
+      after = put_step c.args.out.now c.write_decimal-place.new.out c.args.at c.write_decimal-place.result c.args.n c.if-n-lt10.false (omega arith) c.requires c.write_decimal-place.ensures.after c.write_decimal-place.ensures.end;
     }

@@ -12,7 +12,7 @@ returns c =
     let size : at + length text - at ≡ length text = omega arith in
     record {
       answer = sym (fit_answer bytes at text h);
-      after = ap₂ (λ ys n. take at bytes ++ (ys ++ drop n (drop at bytes))) c.copy-from-slice.ensures.after size
+      after = ap₂ (λ ys n. take at bytes ++ (ys ++ drop n (drop at bytes))) c.copy_from_slice.ensures.after size
           ∙ ap (λ zs. take at bytes ++ (text ++ zs)) (drop-drop (length text) at bytes)
           ∙ sym (fit_leaves bytes at text h);
     }

@@ -19,7 +19,7 @@ returns g c =
     let same = c.kept-kept.ensures.0 in
     let said = c.search.ensures in
     let answer = said.answer ∙ ap (λ (n : ℕ). search_answer m b (take n visits) (length rows) (length history)) same
-    ∙ question_answered r b m visits (sym c.if-not-counts-agree.ensures) (omega (arith, same, c.if-visits-kept.false)) (omega (arith, same, c.kept-kept.ensures.few)) (length rows) (length history) in
+    ∙ question_answered r b m visits (sym c.if-not-counts_agree.ensures) (omega (arith, same, c.if-visits-kept.false)) (omega (arith, same, c.kept-kept.ensures.few)) (length rows) (length history) in
     let filled = subst (λ (n : ℕ). RowsAfter (asked m b (take n visits)) rows c.search.new.rows c.search.result) same said.rows in
     let shown = subst (λ (n : ℕ). HistoryAfter (asked m b (take n visits)) history c.search.new.history c.search.result) same said.history in
     record {

@@ -7,10 +7,10 @@ returns-then-eq g c =
     ends_here g.R.Keyed.alike g.R.Keyed.turns _ _ _ _ _ _ _ c.walk.invariant.1 c.walk.invariant.2 c.walk.invariant.0 c.walk.invariant.3 c.index-cells-at.is
     _ (g.met.R.Keyed.decides _ _ _ c.if-eq.ensures) refl
 
-pub returns-in-default : goal.returns-in-default
-returns-in-default g c =
+pub returns-in_default : goal.returns-in_default
+returns-in_default g c =
     ends_gap g.R.Keyed.alike g.R.Keyed.turns _ _ _ _ _ _ _ c.walk.invariant.1 c.walk.invariant.2 c.walk.invariant.0 c.walk.invariant.3 c.index-cells-at.is
-    _ _ _ (g.met.R.Keyed.decides _ _ _ c.if-eq.ensures) refl c.turn-right.ensures c.child.ensures c.in-default.is
+    _ _ _ (g.met.R.Keyed.decides _ _ _ c.if-eq.ensures) refl c.turn-right.ensures c.child.ensures c.in_default.is
 
 pub returns-then-next-at : goal.returns-then-next-at
 returns-then-next-at g c =

@@ -13,12 +13,12 @@ has-requires c =
 pub returns-then-not-has : goal.returns-then-not-has
 returns-then-not-has c =
     pass_stop (marked c.args.marks) (book_contents c.args.book.now).rules c.loop-place.place (omega arith)
-    (sym (ap (marked c.args.marks) c.rule-at.ensures) ∙ sym c.if-not-has.ensures) c.loop-place.invariant
+    (sym (ap (marked c.args.marks) c.rule_at.ensures) ∙ sym c.if-not-has.ensures) c.loop-place.invariant
 
 pub loop-place-preserved : goal.loop-place-preserved
 loop-place-preserved c =
     pass_more (marked c.args.marks) (book_contents c.args.book.now).rules c.loop-place.place (omega arith)
-    (sym (ap (marked c.args.marks) c.rule-at.ensures) ∙ sym c.if-not-has.ensures) c.loop-place.invariant
+    (sym (ap (marked c.args.marks) c.rule_at.ensures) ∙ sym c.if-not-has.ensures) c.loop-place.invariant
 
 pub returns : goal.returns
 returns c = pass_end (marked c.args.marks) (book_contents c.args.book.now).rules c.loop-place.place (omega arith) c.loop-place.invariant

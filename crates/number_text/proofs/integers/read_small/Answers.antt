@@ -4,5 +4,5 @@ use Rattle.number_text.proofs.integers.read_small.Goals as goal
 
 pub overflow-cast-result : goal.overflow-cast-result
 overflow-cast-result c =
-    let few = read_within c.args.limit (omega arith) c.args.text.now _ _ c.in-ok-number.ensures in
-    fits_small c.in-ok-number.number.value (search rules) (omega arith)
+    let few = read_within c.args.limit (omega arith) c.args.text.now _ _ c.in_ok-number.ensures in
+    fits_small c.in_ok-number.number.value (search rules) (omega arith)

@@ -4,14 +4,14 @@ use Rattle.report.specs.Lines.{refused_text}
 use Rattle.report.proofs.Pieces.{digits_few, begin, more, line_is}
 use Rattle.report.proofs.refused.refused_line.Goals as goal
 
-pub append-number-number-requires : goal.append-number-number-requires
-append-number-number-requires c = omega (arith, digits_few c.from.result (omega arith))
+pub append_number-number-requires : goal.append_number-number-requires
+append_number-number-requires c = omega (arith, digits_few c.from.result (omega arith))
 
 pub append-space-requires : goal.append-space-requires
 append-space-requires c = omega (arith, digits_few c.from.result (omega arith))
 
-pub append-number-place-requires : goal.append-number-place-requires
-append-number-place-requires c = omega (arith, digits_few c.from.result (omega arith), digits_few c.place.result (omega arith))
+pub append_number-place-requires : goal.append_number-place-requires
+append_number-place-requires c = omega (arith, digits_few c.from.result (omega arith), digits_few c.place.result (omega arith))
 
 pub append-end-requires : goal.append-end-requires
 append-end-requires c = omega (arith, digits_few c.from.result (omega arith), digits_few c.place.result (omega arith))
@@ -25,9 +25,9 @@ returns c =
     let number = decimal c.from.result in
     let place = decimal c.place.result in
     let s1 = begin bytes (codes "refused ") c.append-word.ensures.end c.append-word.ensures.after in
-    let s2 = more bytes number s1 c.append-number-number.ensures.end c.append-number-number.ensures.after in
+    let s2 = more bytes number s1 c.append_number-number.ensures.end c.append_number-number.ensures.after in
     let s3 = more bytes (32 ∷ []) s2 c.append-space.ensures.end c.append-space.ensures.after in
-    let s4 = more bytes place s3 c.append-number-place.ensures.end c.append-number-place.ensures.after in
+    let s4 = more bytes place s3 c.append_number-place.ensures.end c.append_number-place.ensures.after in
     let all = more bytes (10 ∷ []) s4 c.append-end.ensures.end c.append-end.ensures.after in
     let is_number : number ≡ decimal (sheet_number c.args.refusal) = ap decimal (c.from.ensures ∙ c.number.ensures) in
     let is-place : place ≡ decimal (sheet_place c.args.refusal) = ap decimal c.place.ensures in

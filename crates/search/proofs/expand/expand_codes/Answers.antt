@@ -17,19 +17,19 @@ loop-code-init g c = (
   λ set. absurd (both_ways false refl set),
 )
 
-pub labels-for-requires : goal.labels-for-requires
-labels-for-requires g c = (omega (arith, c.requires.room.1, c.loop-code.auto.cells), c.loop-code.invariant.1)
+pub labels_for-requires : goal.labels_for-requires
+labels_for-requires g c = (omega (arith, c.requires.room.1, c.loop-code.auto.cells), c.loop-code.invariant.1)
 
-pub fill-up-requires : goal.fill-up-requires
-fill-up-requires g c =
+pub fill_up-requires : goal.fill_up-requires
+fill_up-requires g c =
     let rows = c.loop-code.auto.rows in
     let cells = c.loop-code.auto.cells in
-    let after = c.labels-for.auto.cells in
+    let after = c.labels_for.auto.cells in
     let room = c.requires.room in
-    (omega (arith, room.0, room.1), (c.loop-code.invariant.0.0.indexed, (omega (arith, room.0), c.in-default.ensures.apart)))
+    (omega (arith, room.0, room.1), (c.loop-code.invariant.0.0.indexed, (omega (arith, room.0), c.in_default.ensures.apart)))
 
-pub enter-labels-requires : goal.enter-labels-requires
-enter-labels-requires g c =
+pub enter_labels-requires : goal.enter_labels-requires
+enter_labels-requires g c =
     let rows = c.loop-code.auto.rows in
     let room = c.requires.room in (
       omega (arith, room.0, room.1),
@@ -39,27 +39,27 @@ enter-labels-requires g c =
 pub loop-code-preserved : goal.loop-code-preserved
 loop-code-preserved g c =
     let m = g.T.Theory.meaning c.args.theory.now in
-    let shown = subst (Shown m c.args.row.code (Code c.loop-code.code) c.truth-at-truth.result) c.atom-count.ensures c.truth-at-truth.ensures in (
+    let shown = subst (Shown m c.args.row.code (Code c.loop-code.code) c.truth_at-truth.result) c.atom_count.ensures c.truth_at-truth.ensures in (
       code_more c.args.visit.from m (book_contents c.args.book.now) (position c.args.row) c.args.visit.place c.args.visits.first c.loop-code.code _
-          c.requires.known shown _ _ _ _ _ _ c.loop-code.auto.code c.loop-code.invariant.0 _ _ c.in-Some.ensures c.in-Some-enter-labels.ensures,
+          c.requires.known shown _ _ _ _ _ _ c.loop-code.auto.code c.loop-code.invariant.0 _ _ c.in-Some.ensures c.in-Some-enter_labels.ensures,
       c.in-Some.ensures.2,
     )
 
-pub returns-in-default : goal.returns-in-default
-returns-in-default g c =
+pub returns-in_default : goal.returns-in_default
+returns-in_default g c =
     let m = g.T.Theory.meaning c.args.theory.now in
-    let shown = subst (Shown m c.args.row.code (Code c.loop-code.code) c.truth-at-truth.result) c.atom-count.ensures c.truth-at-truth.ensures in
+    let shown = subst (Shown m c.args.row.code (Code c.loop-code.code) c.truth_at-truth.result) c.atom_count.ensures c.truth_at-truth.ensures in
     code_full c.args.visit.from m (book_contents c.args.book.now) (position c.args.row) c.args.visit.place c.args.visits.first c.loop-code.code _
     c.requires.known shown _ _ _ _ _ _ c.loop-code.auto.code c.loop-code.invariant.0 c.args.visits.end c.loop-code-test.true
-    c.in-default.ensures c.fill-up.ensures
+    c.in_default.ensures c.fill_up.ensures
 
-pub returns-in-default-enter-labels : goal.returns-in-default-enter-labels
-returns-in-default-enter-labels g c =
+pub returns-in_default-enter_labels : goal.returns-in_default-enter_labels
+returns-in_default-enter_labels g c =
     let m = g.T.Theory.meaning c.args.theory.now in
-    let shown = subst (Shown m c.args.row.code (Code c.loop-code.code) c.truth-at-truth.result) c.atom-count.ensures c.truth-at-truth.ensures in
+    let shown = subst (Shown m c.args.row.code (Code c.loop-code.code) c.truth_at-truth.result) c.atom_count.ensures c.truth_at-truth.ensures in
     code_short c.args.visit.from m (book_contents c.args.book.now) (position c.args.row) c.args.visit.place c.args.visits.first c.loop-code.code _
     c.requires.known shown _ _ _ _ _ _ c.loop-code.auto.code c.loop-code.invariant.0 _ c.args.visits.end c.loop-code-test.true
-    c.in-Some.ensures c.in-default-enter-labels.ensures
+    c.in-Some.ensures c.in_default-enter_labels.ensures
 
 pub returns : goal.returns
 returns g c =

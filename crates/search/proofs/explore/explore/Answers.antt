@@ -3,8 +3,8 @@ use Rattle.search.proofs.Members.{same_rest}
 use Rattle.search.proofs.Answering.{can_left, can_answer, can_backed, can_history, cannot_left, cannot_answer, short_distinct, short_counted, short_answer}
 use Rattle.search.proofs.explore.explore.Goals as goal
 
-pub read-back-requires : goal.read-back-requires
-read-back-requires g c =
+pub read_back-requires : goal.read_back-requires
+read_back-requires g c =
     let x = c.in-Can.ensures in
     (omega (arith, x.0.room, x.6, x.5.0), can_backed _ c.requires.ready.posed _ _ _ _ _ x)
 
@@ -14,7 +14,7 @@ returns-in-Can g c =
     record {
       answer = can_answer _ c.requires.ready.posed _ _ _ _ _ x;
       rows = (can_left _ c.requires.ready.posed _ _ _ _ _ x, x.5.0, same_rest _ _ _ x.5.0 x.5.1);
-      history = can_history _ c.requires.ready.posed _ _ _ _ _ x _ _ c.read-back.ensures;
+      history = can_history _ c.requires.ready.posed _ _ _ _ _ x _ _ c.read_back.ensures;
     }
 
 pub returns-in-Cannot : goal.returns-in-Cannot

@@ -16,13 +16,13 @@ loop-i-preserved c =
     collected_more (λ e. e.from ≡ c.args.visit.from) (λ i p. p ≡ at_place c.args.visit.place (label_in c.args.cells.now i) c.args.visit.code) 0
     _ _ _ _ _ _ _ (omega arith) c.loop-i.invariant c.in-Some.ensures
 
-pub returns-in-default : goal.returns-in-default
-returns-in-default c =
+pub returns-in_default : goal.returns-in_default
+returns-in_default c =
     spread_none (λ e. e.from ≡ c.args.visit.from) _ _
     (some_labelled c.args.cells.now c.args.count c.requires.1.1 c.args.visit.place c.args.visit.code)
     _ _ _
     (collected_short (λ e. e.from ≡ c.args.visit.from) (λ i p. p ≡ at_place c.args.visit.place (label_in c.args.cells.now i) c.args.visit.code) 0
-    _ _ _ _ _ _ c.args.count (omega arith) c.loop-i-test.true c.loop-i.invariant c.in-default.ensures)
+    _ _ _ _ _ _ c.args.count (omega arith) c.loop-i-test.true c.loop-i.invariant c.in_default.ensures)
 
 pub returns : goal.returns
 returns c =

@@ -3,22 +3,22 @@ use Rattle.search.proofs.Bounds.{level_bounded}
 use Rattle.std.proofs.Common.{arith}
 use Rattle.search.proofs.layers.by_layers.Goals as goal
 
-pub returns-in-default : goal.returns-in-default
-returns-in-default g c = begin_short _ _ _ _ _ _ c.in-default.ensures
+pub returns-in_default : goal.returns-in_default
+returns-in_default g c = begin_short _ _ _ _ _ _ c.in_default.ensures
 
 pub layers-init : goal.layers-init
 layers-init g c = (omega arith, level_first _ _ _ _ _ _ _ c.in-Some.ensures)
 
-pub first-end-requires : goal.first-end-requires
-first-end-requires g c =
+pub first_end-requires : goal.first_end-requires
+first_end-requires g c =
     record {
       ready = c.requires.ready;
       span = (c.layers.invariant.1.order, c.layers.invariant.1.room);
       bounded = level_bounded _ c.requires.ready.posed _ _ _ _ _ c.layers.invariant.1;
     }
 
-pub expand-layer-requires : goal.expand-layer-requires
-expand-layer-requires g c =
+pub expand_layer-requires : goal.expand_layer-requires
+expand_layer-requires g c =
     record {
       ready = c.requires.ready;
       span = c.layers.invariant.1.order;
@@ -27,24 +27,24 @@ expand-layer-requires g c =
       bounded = level_bounded _ c.requires.ready.posed _ _ _ _ _ c.layers.invariant.1;
     }
 
-pub returns-in-Some-first-end : goal.returns-in-Some-first-end
-returns-in-Some-first-end g c =
+pub returns-in-Some-first_end : goal.returns-in-Some-first_end
+returns-in-Some-first_end g c =
     level_can _ _ _ _ _ _ _ _ _
     (level_from _ _ _ _ _ _ _ _ _ _ _ c.in-Some.ensures.0 c.layers.invariant.0 c.layers.invariant.1)
-    c.in-Some-first-end.ensures
+    c.in-Some-first_end.ensures
 
-pub returns-in-default-expand-layer : goal.returns-in-default-expand-layer
-returns-in-default-expand-layer g c =
+pub returns-in_default-expand_layer : goal.returns-in_default-expand_layer
+returns-in_default-expand_layer g c =
     level_short _ _ _ _ _ _ _ _ _
     c.layers-test.true
     (level_from _ _ _ _ _ _ _ _ _ _ _ c.in-Some.ensures.0 c.layers.invariant.0 c.layers.invariant.1)
-    c.in-default-first-end.ensures
-    c.in-default-expand-layer.ensures
+    c.in_default-first_end.ensures
+    c.in_default-expand_layer.ensures
 
 pub layers-preserved : goal.layers-preserved
 layers-preserved g c = (
-  omega (arith, c.in-Some-expand-layer.ensures.0.rises),
-  level_next _ _ _ _ _ _ _ _ _ _ c.layers-test.true c.layers.invariant.1 c.in-default-first-end.ensures c.in-Some-expand-layer.ensures,
+  omega (arith, c.in-Some-expand_layer.ensures.0.rises),
+  level_next _ _ _ _ _ _ _ _ _ _ c.layers-test.true c.layers.invariant.1 c.in_default-first_end.ensures c.in-Some-expand_layer.ensures,
 )
 
 pub returns : goal.returns

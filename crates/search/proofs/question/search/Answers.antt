@@ -8,7 +8,7 @@ pub explore-requires : goal.explore-requires
 explore-requires g c =
     let m = g.T.Theory.meaning c.args.theory.now in
     let b = book_contents c.args.book.now in
-    let passed = sym c.in-ok-check.ensures in
+    let passed = sym c.in_ok-check.ensures in
     record {
       ready = checked_ready m b c.args.kept.now (length c.args.rows.now) (length c.args.history.now) passed (book_proper c.args.book.now);
       room = (

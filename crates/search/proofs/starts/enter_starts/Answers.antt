@@ -15,10 +15,10 @@ pub loop-code-preserved : goal.loop-code-preserved
 loop-code-preserved c =
     collected_more (λ e. e.from ≡ 0) (StartsAt c.args.label) _ _ _ _ _ _ _ _ c.loop-code.auto.code c.loop-code.invariant c.in-Some.ensures
 
-pub returns-in-default : goal.returns-in-default
-returns-in-default c =
+pub returns-in_default : goal.returns-in_default
+returns-in_default c =
     collected_short (λ e. e.from ≡ 0) (StartsAt c.args.label) _ _ _ _ _ _ _ c.args.visits.end c.loop-code.auto.code c.loop-code-test.true
-    c.loop-code.invariant c.in-default.ensures
+    c.loop-code.invariant c.in_default.ensures
 
 pub returns : goal.returns
 returns c =

@@ -37,14 +37,14 @@ returns-then-inside t c = record {
 pub expand-requires-then-not-on : goal.expand-requires-then-not-on
 expand-requires-then-not-on t c =
     let is = ways_read (moment c.args.sight.truth c.args.sight.last) (book_contents c.args.sight.book.now) c.args.sight.able c.args.sight.ways.now c.args.sight.reach.now c.args.sight.must.now c.requires.0
-    c.args.members c.top-number.result c.ways-at-on.result c.requires.1.0 c.top-number.ensures.1 c.ways-at-on.ensures in (
+    c.args.members c.top-number.result c.ways_at-on.result c.requires.1.0 c.top-number.ensures.1 c.ways_at-on.ensures in (
       (let l = less_next (moment c.args.sight.truth c.args.sight.last) (book_contents c.args.sight.book.now) c.args.sight.able c.args.sight.ways.now c.args.sight.reach.now c.args.sight.must.now c.requires.0
-          c.args.members c.top-number.result c.without-rest.result c.requires.1.0 c.top-number.ensures.1 c.without-rest.ensures c.ways-at-on.result.first is.first_is in omega (arith, l)),
+          c.args.members c.top-number.result c.without-rest.result c.requires.1.0 c.top-number.ensures.1 c.without-rest.ensures c.ways_at-on.result.first is.first_is in omega (arith, l)),
       (
         c.requires.0,
         (
           inside_next (moment c.args.sight.truth c.args.sight.last) (book_contents c.args.sight.book.now) c.args.sight.able c.args.sight.ways.now c.args.sight.reach.now c.args.sight.must.now c.requires.0
-              c.args.members c.top-number.result c.without-rest.result c.requires.1.0 c.top-number.ensures.1 c.without-rest.ensures c.ways-at-on.result.first is.first_is,
+              c.args.members c.top-number.result c.without-rest.result c.requires.1.0 c.top-number.ensures.1 c.without-rest.ensures c.ways_at-on.result.first is.first_is,
           (c.requires.1.1.0, c.requires.1.1.1),
         ),
       ),
@@ -53,9 +53,9 @@ expand-requires-then-not-on t c =
 pub returns-then-not-on : goal.returns-then-not-on
 returns-then-not-on t c =
     let is = ways_read (moment c.args.sight.truth c.args.sight.last) (book_contents c.args.sight.book.now) c.args.sight.able c.args.sight.ways.now c.args.sight.reach.now c.args.sight.must.now c.requires.0
-    c.args.members c.top-number.result c.ways-at-on.result c.requires.1.0 c.top-number.ensures.1 c.ways-at-on.ensures in record {
+    c.args.members c.top-number.result c.ways_at-on.result c.requires.1.0 c.top-number.ensures.1 c.ways_at-on.ensures in record {
       fills = filled_one (moment c.args.sight.truth c.args.sight.last) (book_contents c.args.sight.book.now) c.args.sight.able c.args.sight.ways.now c.args.sight.reach.now c.args.sight.must.now c.requires.0
-          c.args.members c.top-number.result c.without-rest.result c.requires.1.0 c.top-number.ensures.1 c.without-rest.ensures c.ways-at-on.result is c.args.next (not-true _ c.if-not-on.true) _ _ _ _ c.expand-then-not-on.ensures.fills;
+          c.args.members c.top-number.result c.without-rest.result c.requires.1.0 c.top-number.ensures.1 c.without-rest.ensures c.ways_at-on.result is c.args.next (not-true _ c.if-not-on.true) _ _ _ _ c.expand-then-not-on.ensures.fills;
       keeps = c.expand-then-not-on.ensures.keeps;
     }
 
@@ -68,77 +68,77 @@ returns-then-seen t c = record {
 pub expand-requires-2 : goal.expand-requires-2
 expand-requires-2 t c =
     let is = ways_read (moment c.args.sight.truth c.args.sight.last) (book_contents c.args.sight.book.now) c.args.sight.able c.args.sight.ways.now c.args.sight.reach.now c.args.sight.must.now c.requires.0
-    c.args.members c.top-number.result c.ways-at-on.result c.requires.1.0 c.top-number.ensures.1 c.ways-at-on.ensures in (
+    c.args.members c.top-number.result c.ways_at-on.result c.requires.1.0 c.top-number.ensures.1 c.ways_at-on.ensures in (
       (let l = less_next (moment c.args.sight.truth c.args.sight.last) (book_contents c.args.sight.book.now) c.args.sight.able c.args.sight.ways.now c.args.sight.reach.now c.args.sight.must.now c.requires.0
-          c.args.members c.top-number.result c.without-rest.result c.requires.1.0 c.top-number.ensures.1 c.without-rest.ensures c.ways-at-on.result.first is.first_is in omega (arith, l)),
+          c.args.members c.top-number.result c.without-rest.result c.requires.1.0 c.top-number.ensures.1 c.without-rest.ensures c.ways_at-on.result.first is.first_is in omega (arith, l)),
       (
         c.requires.0,
         (
           inside_next (moment c.args.sight.truth c.args.sight.last) (book_contents c.args.sight.book.now) c.args.sight.able c.args.sight.ways.now c.args.sight.reach.now c.args.sight.must.now c.requires.0
-              c.args.members c.top-number.result c.without-rest.result c.requires.1.0 c.top-number.ensures.1 c.without-rest.ensures c.ways-at-on.result.first is.first_is,
+              c.args.members c.top-number.result c.without-rest.result c.requires.1.0 c.top-number.ensures.1 c.without-rest.ensures c.ways_at-on.result.first is.first_is,
           (c.requires.1.1.0, c.requires.1.1.1),
         ),
       ),
     )
 
-pub returns-in-default : goal.returns-in-default
-returns-in-default t c =
+pub returns-in_default : goal.returns-in_default
+returns-in_default t c =
     let is = ways_read (moment c.args.sight.truth c.args.sight.last) (book_contents c.args.sight.book.now) c.args.sight.able c.args.sight.ways.now c.args.sight.reach.now c.args.sight.must.now c.requires.0
-    c.args.members c.top-number.result c.ways-at-on.result c.requires.1.0 c.top-number.ensures.1 c.ways-at-on.ensures in record {
+    c.args.members c.top-number.result c.ways_at-on.result c.requires.1.0 c.top-number.ensures.1 c.ways_at-on.ensures in record {
       fills = filled_stop (moment c.args.sight.truth c.args.sight.last) (book_contents c.args.sight.book.now) c.args.sight.able c.args.sight.ways.now c.args.sight.reach.now c.args.sight.must.now c.requires.0
-          c.args.members c.top-number.result c.without-rest.result c.requires.1.0 c.top-number.ensures.1 c.without-rest.ensures c.ways-at-on.result is c.args.next _ _ _
+          c.args.members c.top-number.result c.without-rest.result c.requires.1.0 c.top-number.ensures.1 c.without-rest.ensures c.ways_at-on.result is c.args.next _ _ _
           (filled_way (moment c.args.sight.truth c.args.sight.last) (book_contents c.args.sight.book.now) c.args.sight.able c.args.sight.ways.now c.args.sight.reach.now c.args.sight.must.now c.requires.0
-          c.args.members c.top-number.result c.without-rest.result c.requires.1.0 c.top-number.ensures.1 c.without-rest.ensures c.ways-at-on.result.first is.first_is c.args.next _ c.gathered-by-first.ensures _ _ _ None c.in-default.ensures.fills);
+          c.args.members c.top-number.result c.without-rest.result c.requires.1.0 c.top-number.ensures.1 c.without-rest.ensures c.ways_at-on.result.first is.first_is c.args.next _ c.gathered-by_first.ensures _ _ _ None c.in_default.ensures.fills);
       keeps = tt;
     }
 
 pub expand-requires-3 : goal.expand-requires-3
 expand-requires-3 t c =
     let is = ways_read (moment c.args.sight.truth c.args.sight.last) (book_contents c.args.sight.book.now) c.args.sight.able c.args.sight.ways.now c.args.sight.reach.now c.args.sight.must.now c.requires.0
-    c.args.members c.top-number.result c.ways-at-on.result c.requires.1.0 c.top-number.ensures.1 c.ways-at-on.ensures in
+    c.args.members c.top-number.result c.ways_at-on.result c.requires.1.0 c.top-number.ensures.1 c.ways_at-on.ensures in
     let fork = not-false _ c.if-not-on.false in
     let g = c.in-Some.ensures.fills.0 in (
       (let l = less_next (moment c.args.sight.truth c.args.sight.last) (book_contents c.args.sight.book.now) c.args.sight.able c.args.sight.ways.now c.args.sight.reach.now c.args.sight.must.now c.requires.0
-          c.args.members c.top-number.result c.without-rest.result c.requires.1.0 c.top-number.ensures.1 c.without-rest.ensures c.ways-at-on.result.second (is.second_is fork) in omega (arith, l)),
+          c.args.members c.top-number.result c.without-rest.result c.requires.1.0 c.top-number.ensures.1 c.without-rest.ensures c.ways_at-on.result.second (is.second_is fork) in omega (arith, l)),
       (
         c.requires.0,
         (
           inside_next (moment c.args.sight.truth c.args.sight.last) (book_contents c.args.sight.book.now) c.args.sight.able c.args.sight.ways.now c.args.sight.reach.now c.args.sight.must.now c.requires.0
-              c.args.members c.top-number.result c.without-rest.result c.requires.1.0 c.top-number.ensures.1 c.without-rest.ensures c.ways-at-on.result.second (is.second_is fork),
+              c.args.members c.top-number.result c.without-rest.result c.requires.1.0 c.top-number.ensures.1 c.without-rest.ensures c.ways_at-on.result.second (is.second_is fork),
           (g.taken, c.in-Some.ensures.keeps),
         ),
       ),
     )
 
-pub returns-in-default-expand : goal.returns-in-default-expand
-returns-in-default-expand t c =
+pub returns-in_default-expand : goal.returns-in_default-expand
+returns-in_default-expand t c =
     let is = ways_read (moment c.args.sight.truth c.args.sight.last) (book_contents c.args.sight.book.now) c.args.sight.able c.args.sight.ways.now c.args.sight.reach.now c.args.sight.must.now c.requires.0
-    c.args.members c.top-number.result c.ways-at-on.result c.requires.1.0 c.top-number.ensures.1 c.ways-at-on.ensures in
+    c.args.members c.top-number.result c.ways_at-on.result c.requires.1.0 c.top-number.ensures.1 c.ways_at-on.ensures in
     let fork = not-false _ c.if-not-on.false in record {
       fills = filled_both (moment c.args.sight.truth c.args.sight.last) (book_contents c.args.sight.book.now) c.args.sight.able c.args.sight.ways.now c.args.sight.reach.now c.args.sight.must.now c.requires.0
-          c.args.members c.top-number.result c.without-rest.result c.requires.1.0 c.top-number.ensures.1 c.without-rest.ensures c.ways-at-on.result is c.args.next fork _ _ _ _ _ None
+          c.args.members c.top-number.result c.without-rest.result c.requires.1.0 c.top-number.ensures.1 c.without-rest.ensures c.ways_at-on.result is c.args.next fork _ _ _ _ _ None
           (filled_way (moment c.args.sight.truth c.args.sight.last) (book_contents c.args.sight.book.now) c.args.sight.able c.args.sight.ways.now c.args.sight.reach.now c.args.sight.must.now c.requires.0
-          c.args.members c.top-number.result c.without-rest.result c.requires.1.0 c.top-number.ensures.1 c.without-rest.ensures c.ways-at-on.result.first is.first_is c.args.next _ c.gathered-by-first.ensures _ _ _ (Some c.in-Some.more) c.in-Some.ensures.fills)
+          c.args.members c.top-number.result c.without-rest.result c.requires.1.0 c.top-number.ensures.1 c.without-rest.ensures c.ways_at-on.result.first is.first_is c.args.next _ c.gathered-by_first.ensures _ _ _ (Some c.in-Some.more) c.in-Some.ensures.fills)
           (filled_way (moment c.args.sight.truth c.args.sight.last) (book_contents c.args.sight.book.now) c.args.sight.able c.args.sight.ways.now c.args.sight.reach.now c.args.sight.must.now c.requires.0
-          c.args.members c.top-number.result c.without-rest.result c.requires.1.0 c.top-number.ensures.1 c.without-rest.ensures c.ways-at-on.result.second (is.second_is fork) c.args.next _ c.gathered-by-second.ensures _ _ _ None c.in-default-expand.ensures.fills);
+          c.args.members c.top-number.result c.without-rest.result c.requires.1.0 c.top-number.ensures.1 c.without-rest.ensures c.ways_at-on.result.second (is.second_is fork) c.args.next _ c.gathered-by_second.ensures _ _ _ None c.in_default-expand.ensures.fills);
       keeps = tt;
     }
 
 pub returns : goal.returns
 returns t c =
     let is = ways_read (moment c.args.sight.truth c.args.sight.last) (book_contents c.args.sight.book.now) c.args.sight.able c.args.sight.ways.now c.args.sight.reach.now c.args.sight.must.now c.requires.0
-    c.args.members c.top-number.result c.ways-at-on.result c.requires.1.0 c.top-number.ensures.1 c.ways-at-on.ensures in
+    c.args.members c.top-number.result c.ways_at-on.result c.requires.1.0 c.top-number.ensures.1 c.ways_at-on.ensures in
     let fork = not-false _ c.if-not-on.false in
     let all = filled_both (moment c.args.sight.truth c.args.sight.last) (book_contents c.args.sight.book.now) c.args.sight.able c.args.sight.ways.now c.args.sight.reach.now c.args.sight.must.now c.requires.0
-    c.args.members c.top-number.result c.without-rest.result c.requires.1.0 c.top-number.ensures.1 c.without-rest.ensures c.ways-at-on.result is c.args.next fork _ _ _ _ _ (Some c.in-Some-expand.all)
+    c.args.members c.top-number.result c.without-rest.result c.requires.1.0 c.top-number.ensures.1 c.without-rest.ensures c.ways_at-on.result is c.args.next fork _ _ _ _ _ (Some c.in-Some-expand.all)
     (filled_way (moment c.args.sight.truth c.args.sight.last) (book_contents c.args.sight.book.now) c.args.sight.able c.args.sight.ways.now c.args.sight.reach.now c.args.sight.must.now c.requires.0
-    c.args.members c.top-number.result c.without-rest.result c.requires.1.0 c.top-number.ensures.1 c.without-rest.ensures c.ways-at-on.result.first is.first_is c.args.next _ c.gathered-by-first.ensures _ _ _ (Some c.in-Some.more) c.in-Some.ensures.fills)
+    c.args.members c.top-number.result c.without-rest.result c.requires.1.0 c.top-number.ensures.1 c.without-rest.ensures c.ways_at-on.result.first is.first_is c.args.next _ c.gathered-by_first.ensures _ _ _ (Some c.in-Some.more) c.in-Some.ensures.fills)
     (filled_way (moment c.args.sight.truth c.args.sight.last) (book_contents c.args.sight.book.now) c.args.sight.able c.args.sight.ways.now c.args.sight.reach.now c.args.sight.must.now c.requires.0
-    c.args.members c.top-number.result c.without-rest.result c.requires.1.0 c.top-number.ensures.1 c.without-rest.ensures c.ways-at-on.result.second (is.second_is fork) c.args.next _ c.gathered-by-second.ensures _ _ _ (Some c.in-Some-expand.all) c.in-Some-expand.ensures.fills) in
+    c.args.members c.top-number.result c.without-rest.result c.requires.1.0 c.top-number.ensures.1 c.without-rest.ensures c.ways_at-on.result.second (is.second_is fork) c.args.next _ c.gathered-by_second.ensures _ _ _ (Some c.in-Some-expand.all) c.in-Some-expand.ensures.fills) in
     record {
       fills = all;
       keeps = kept_filled (moment c.args.sight.truth c.args.sight.last) (book_contents c.args.sight.book.now) _ _ _ _ _ c.in-Some-expand.all _ _ c.remember.ensures all c.in-Some-expand.ensures.keeps;
     }
 
-pub ways-at-on-requires : goal.ways-at-on-requires
-ways-at-on-requires t c = omega (arith, c.top-number.ensures.0, c.requires.0.ways_room)
+pub ways_at-on-requires : goal.ways_at-on-requires
+ways_at-on-requires t c = omega (arith, c.top-number.ensures.0, c.requires.0.ways_room)

@@ -14,17 +14,17 @@ enter-requires c = taken_none _
 pub returns-then-members-eq0 : goal.returns-then-members-eq0
 returns-then-members-eq0 c =
     lists_next (book_contents c.args.book.now) (book_proper c.args.book.now) c.args.truth c.args.last c.args.label _
-    c.known-part-members.ensures _ _ _
+    c.known_part-members.ensures _ _ _
     (filled_empty (moment c.args.truth c.args.last) (book_contents c.args.book.now) (book_proper c.args.book.now)
-    c.known-part-members.result c.if-members-eq0.true _ _ _ _ c.enter.ensures)
+    c.known_part-members.result c.if-members-eq0.true _ _ _ _ c.enter.ensures)
 
 pub returns-then-not-inside : goal.returns-then-not-inside
 returns-then-not-inside c =
     lists_never (book_contents c.args.book.now) c.args.truth c.args.last c.viable-able.result c.args.label _
-    c.viable-able.ensures.tells c.known-part-members.ensures (λ h. false≢true (c.if-not-inside.ensures.1 h)) _
+    c.viable-able.ensures.tells c.known_part-members.ensures (λ h. false≢true (c.if-not-inside.ensures.1 h)) _
 
-pub expand-forked-requires : goal.expand-forked-requires
-expand-forked-requires c = (
+pub expand_forked-requires : goal.expand_forked-requires
+expand_forked-requires c = (
   record {
     proper = book_proper c.args.book.now;
     viable = c.viable-able.ensures.fit;
@@ -50,12 +50,12 @@ returns-then-forks-gt6 c =
       reach_room = c.fill-forks.auto.reach;
       must_room = c.fill-forks.auto.must;
     } in
-    lists_next (book_contents c.args.book.now) (book_proper c.args.book.now) c.args.truth c.args.last c.args.label _ c.known-part-members.ensures _ _ _
+    lists_next (book_contents c.args.book.now) (book_proper c.args.book.now) c.args.truth c.args.last c.args.label _ c.known_part-members.ensures _ _ _
     (filled_begin (moment c.args.truth c.args.last) (book_contents c.args.book.now) c.viable-able.result c.fill-forks.new.ways c.fill-forks.new.reach c.fill-forks.new.must gd
-    c.known-part-members.result _ (c.if-not-inside.ensures.0 refl) c.gathered-given.ensures _ _ _ _ c.expand-forked.ensures)
+    c.known_part-members.result _ (c.if-not-inside.ensures.0 refl) c.gathered-given.ensures _ _ _ _ c.expand_forked.ensures)
 
-pub expand-plain-requires : goal.expand-plain-requires
-expand-plain-requires c = (
+pub expand_plain-requires : goal.expand_plain-requires
+expand_plain-requires c = (
   record {
     proper = book_proper c.args.book.now;
     viable = c.viable-able.ensures.fit;
@@ -81,6 +81,6 @@ returns c =
       reach_room = c.fill-forks.auto.reach;
       must_room = c.fill-forks.auto.must;
     } in
-    lists_next (book_contents c.args.book.now) (book_proper c.args.book.now) c.args.truth c.args.last c.args.label _ c.known-part-members.ensures _ _ _
+    lists_next (book_contents c.args.book.now) (book_proper c.args.book.now) c.args.truth c.args.last c.args.label _ c.known_part-members.ensures _ _ _
     (filled_begin (moment c.args.truth c.args.last) (book_contents c.args.book.now) c.viable-able.result c.fill-forks.new.ways c.fill-forks.new.reach c.fill-forks.new.must gd
-    c.known-part-members.result _ (c.if-not-inside.ensures.0 refl) c.gathered-given.ensures _ _ _ _ c.expand-plain.ensures)
+    c.known_part-members.result _ (c.if-not-inside.ensures.0 refl) c.gathered-given.ensures _ _ _ _ c.expand_plain.ensures)

@@ -32,11 +32,11 @@ counted-forks-requires c = omega (arith, (book_proper c.args.book.now).few, c.lo
 pub loop-number-preserved : goal.loop-number-preserved
 loop-number-preserved c =
     let pr = book_proper c.args.book.now in (
-      ways_step (moment c.args.truth c.args.last) (book_contents c.args.book.now) pr c.args.able c.loop-number.number c.ways-on-on.result c.ways-on-on.ensures _
+      ways_step (moment c.args.truth c.args.last) (book_contents c.args.book.now) pr c.args.able c.loop-number.number c.ways_on-on.result c.ways_on-on.ensures _
           (omega (arith, pr.few, c.requires.1.0)) c.loop-number.invariant.0,
-      reach_step (moment c.args.truth c.args.last) (book_contents c.args.book.now) pr c.args.able c.loop-number.number c.ways-on-on.result c.ways-on-on.ensures _ _
-          (omega (arith, pr.few, c.requires.1.1.0)) c.reach-of-some.ensures c.loop-number.invariant.1,
-      must_step (moment c.args.truth c.args.last) (book_contents c.args.book.now) pr c.args.able c.loop-number.number c.ways-on-on.result c.ways-on-on.ensures _ _
-          (omega (arith, pr.few, c.requires.1.1.1)) c.must-of-every.ensures c.loop-number.invariant.2,
+      reach_step (moment c.args.truth c.args.last) (book_contents c.args.book.now) pr c.args.able c.loop-number.number c.ways_on-on.result c.ways_on-on.ensures _ _
+          (omega (arith, pr.few, c.requires.1.1.0)) c.reach_of-some.ensures c.loop-number.invariant.1,
+      must_step (moment c.args.truth c.args.last) (book_contents c.args.book.now) pr c.args.able c.loop-number.number c.ways_on-on.result c.ways_on-on.ensures _ _
+          (omega (arith, pr.few, c.requires.1.1.1)) c.must_of-every.ensures c.loop-number.invariant.2,
       omega (arith, c.loop-number.invariant.3, c.counted-forks.ensures),
     )

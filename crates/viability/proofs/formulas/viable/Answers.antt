@@ -10,10 +10,10 @@ use Rattle.viability.proofs.formulas.viable.Goals as goal
 pub loop-number-init : goal.loop-number-init
 loop-number-init c = viable_none (moment c.args.truth c.args.last) (book_contents c.args.book.now) (book_proper c.args.book.now)
 
-pub loop-number-preserved-then-not-fits-somehow : goal.loop-number-preserved-then-not-fits-somehow
-loop-number-preserved-then-not-fits-somehow c =
+pub loop-number-preserved-then-not-fits_somehow : goal.loop-number-preserved-then-not-fits_somehow
+loop-number-preserved-then-not-fits_somehow c =
     viable_skip (moment c.args.truth c.args.last) (book_contents c.args.book.now) (book_proper c.args.book.now) _ _
-    (λ h. false≢true (c.if-not-fits-somehow.ensures.1 h)) c.loop-number.invariant
+    (λ h. false≢true (c.if-not-fits_somehow.ensures.1 h)) c.loop-number.invariant
 
 pub with-able-requires : goal.with-able-requires
 with-able-requires c = omega (arith, (book_proper c.args.book.now).few)
@@ -21,7 +21,7 @@ with-able-requires c = omega (arith, (book_proper c.args.book.now).few)
 pub loop-number-preserved : goal.loop-number-preserved
 loop-number-preserved c =
     viable_with (moment c.args.truth c.args.last) (book_contents c.args.book.now) (book_proper c.args.book.now) _ _ _
-    c.with-able.ensures (c.if-not-fits-somehow.ensures.0 refl) c.loop-number.invariant
+    c.with-able.ensures (c.if-not-fits_somehow.ensures.0 refl) c.loop-number.invariant
 
 pub returns : goal.returns
 returns c =

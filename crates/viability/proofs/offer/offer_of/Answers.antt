@@ -10,8 +10,8 @@ use Rattle.viability.specs.Offers.{Offered, OperandsBelow, chosen}
 use Rattle.viability.proofs.Operands.{read_in, known_below}
 use Rattle.viability.proofs.offer.offer_of.Goals as goal
 
-pub offer-on-requires : goal.offer-on-requires
-offer-on-requires c =
+pub offer_on-requires : goal.offer_on-requires
+offer_on-requires c =
     let b = book_contents c.args.book.now in
     let pr = book_proper c.args.book.now in
     let r = read_in b.nodes c.args.number True _ c.in-Ok.ensures in (
@@ -23,7 +23,7 @@ pub returns-in-Ok : goal.returns-in-Ok
 returns-in-Ok c =
     let b = book_contents c.args.book.now in
     let r = read_in b.nodes c.args.number True _ c.in-Ok.ensures in
-    subst (λ (m : Node). Offered (moment c.args.truth c.args.last) c.args.number m (chosen c.args.side) c.offer-on.result) r.1 c.offer-on.ensures
+    subst (λ (m : Node). Offered (moment c.args.truth c.args.last) c.args.number m (chosen c.args.side) c.offer_on.result) r.1 c.offer_on.ensures
 
 pub returns-in-Err : goal.returns-in-Err
 returns-in-Err c =

@@ -6,13 +6,13 @@ use Rattle.flags.proofs.flags.Flags.add_atom.Goals as goal
 pub invariant-of-self : goal.invariant-of-self
 invariant-of-self c =
     let t = c.args.self.now in
-    let more = named_more t c.args.text.now c.in-Some.flag c.in-Some.ensures (omega (arith, t.spaced, t.few, c.if-self-ge-MOST-ATOMS.false)) in (
+    let more = named_more t c.args.text.now c.in-Some.flag c.in-Some.ensures (omega (arith, t.spaced, t.few, c.if-self-ge-MOST_ATOMS.false)) in (
       t.whole,
-      (t.some, (t.most, (t.indexed, (length-set t.atoms t.used c.in-Some.flag ∙ t.spaced, (omega (arith, t.few, c.if-self-ge-MOST-ATOMS.false), (more, tt)))))),
+      (t.some, (t.most, (t.indexed, (length-set t.atoms t.used c.in-Some.flag ∙ t.spaced, (omega (arith, t.few, c.if-self-ge-MOST_ATOMS.false), (more, tt)))))),
     )
 
 pub returns : goal.returns
 returns c =
     let t = c.args.self.now in
-    let p = atom_added t c.args.text.now c.in-Some.flag c.in-Some.ensures (omega (arith, t.few, c.if-self-ge-MOST-ATOMS.false)) in
+    let p = atom_added t c.args.text.now c.in-Some.flag c.in-Some.ensures (omega (arith, t.few, c.if-self-ge-MOST_ATOMS.false)) in
     record { answer = p.0; after = p.1 }

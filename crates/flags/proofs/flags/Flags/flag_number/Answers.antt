@@ -4,10 +4,10 @@ use Rattle.flags.proofs.Atoms.{flag_below}
 use Rattle.flags.proofs.Filling.{named_none, none_named, numbered}
 use Rattle.flags.proofs.flags.Flags.flag_number.Goals as goal
 
-pub returns-in-default : goal.returns-in-default
-returns-in-default c =
+pub returns-in_default : goal.returns-in_default
+returns-in_default c =
     let t = c.args.self.now in
-    sym (none_named c.args.text.now (named_none c.args.text.now c.in-default.ensures) (items t.names t.count))
+    sym (none_named c.args.text.now (named_none c.args.text.now c.in_default.ensures) (items t.names t.count))
 
 pub overflow-cast-result : goal.overflow-cast-result
 overflow-cast-result c =

@@ -9,7 +9,7 @@ use Rattle.flags.proofs.holds.FlagsTheory.holds.Goals as goal
 pub returns : goal.returns
 returns c =
     let t = c.args.self.now in
-    let exists = atom_exists c.code-count.result t.used c.args.atom c.args.code c.args.next (sym c.check-within.ensures ∙ c.in-ok-check-within.was) in
+    let exists = atom_exists c.code_count.result t.used c.args.atom c.args.code c.args.next (sym c.check_within.ensures ∙ c.in_ok-check_within.was) in
     answers (flags_meaning (flags_of t)) c.args.atom c.args.code c.args.next
-    c.check-within.ensures c.in-ok-check-within.was c.code-count.ensures (sym (count_atoms t))
-    (c.bit-of.ensures ∙ reads t c.args.atom c.args.code exists)
+    c.check_within.ensures c.in_ok-check_within.was c.code_count.ensures (sym (count_atoms t))
+    (c.bit_of.ensures ∙ reads t c.args.atom c.args.code exists)

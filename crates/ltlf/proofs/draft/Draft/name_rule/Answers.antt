@@ -9,13 +9,13 @@ use Rattle.ltlf.proofs.draft.Draft.name_rule.Goals as goal
 pub bounds-self-self : goal.bounds-self-self
 bounds-self-self c =
     let d = c.args.self.now in
-    omega (arith, room d.rules d.named c.args.formula d.len (omega arith) d.stood d.apart (omega arith) c.if-is-rule.ensures)
+    omega (arith, room d.rules d.named c.args.formula d.len (omega arith) d.stood d.apart (omega arith) c.if-is_rule.ensures)
 
 pub invariant-of-self : goal.invariant-of-self
 invariant-of-self c =
     let d = c.args.self.now in
     let f = c.args.formula in
-    let fresh = c.if-is-rule.ensures in
+    let fresh = c.if-is_rule.ensures in
     let some = room d.rules d.named f d.len (omega arith) d.stood d.apart (omega arith) fresh in
     let within : d.named < length d.rules = omega arith in
     let stood = stood_more d.rules d.named f d.len (omega arith) d.stood d.apart (omega arith) fresh within in
@@ -33,22 +33,22 @@ returns-then-formula-self c =
           (rules_unput (ltb f (length (items d.cells d.len))) (take d.named d.rules) f put);
     }
 
-pub returns-then-is-rule : goal.returns-then-is-rule
-returns-then-is-rule c =
+pub returns-then-is_rule : goal.returns-then-is_rule
+returns-then-is_rule c =
     let d = c.args.self.now in
     let f = c.args.formula in
     let put = was_put d.cells d.len f (omega arith) (omega arith) in
     record {
       answer = sym (ap (λ b. cond b (Ok tt) (Err Unknown)) put);
       after = ap (λ (rs : List ℕ). record { codes = d.codes; atoms = d.atoms; nodes = items d.cells d.len; rules = rs })
-          (rules_again (ltb f (length (items d.cells d.len))) (take d.named d.rules) f c.if-is-rule.ensures);
+          (rules_again (ltb f (length (items d.cells d.len))) (take d.named d.rules) f c.if-is_rule.ensures);
     }
 
 pub returns : goal.returns
 returns c =
     let d = c.args.self.now in
     let f = c.args.formula in
-    let fresh = c.if-is-rule.ensures in
+    let fresh = c.if-is_rule.ensures in
     let some = room d.rules d.named f d.len (omega arith) d.stood d.apart (omega arith) fresh in
     let within : d.named < length d.rules = omega arith in
     let put = was_put d.cells d.len f (omega arith) (omega arith) in

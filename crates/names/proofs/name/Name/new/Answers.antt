@@ -5,8 +5,8 @@ use Rattle.names.proofs.name.Name.new.Goals as goal
 
 pub invariant-of-result : goal.invariant-of-result
 invariant-of-result c =
-    let parts = name_parts c.args.text.now (sym c.if-not-name-like.ensures) in
-    (still_whole c.args.text.now _ (0 ∷ 0 ∷ 0 ∷ 0 ∷ 0 ∷ 0 ∷ 0 ∷ 0 ∷ []) c.copy-from-slice.ensures.after parts.1, (parts.0, (parts.1, (ap all_letters (front_is c.args.text.now _ _ c.copy-from-slice.ensures.after) ∙ parts.2, tt))))
+    let parts = name_parts c.args.text.now (sym c.if-not-name_like.ensures) in
+    (still_whole c.args.text.now _ (0 ∷ 0 ∷ 0 ∷ 0 ∷ 0 ∷ 0 ∷ 0 ∷ 0 ∷ []) c.copy_from_slice.ensures.after parts.1, (parts.0, (parts.1, (ap all_letters (front_is c.args.text.now _ _ c.copy_from_slice.ensures.after) ∙ parts.2, tt))))
 
 pub returns : goal.returns
-returns c = named_is c.args.text.now _ (sym c.if-not-name-like.ensures) (front_is c.args.text.now _ _ c.copy-from-slice.ensures.after)
+returns c = named_is c.args.text.now _ (sym c.if-not-name_like.ensures) (front_is c.args.text.now _ _ c.copy_from_slice.ensures.after)

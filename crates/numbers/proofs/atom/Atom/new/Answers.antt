@@ -8,16 +8,16 @@ pub invariant-of-result : goal.invariant-of-result
 invariant-of-result c =
     let terms = c.args.terms.now in
     let constant = to_z w32 (of_z w32 c.args.constant) in
-    let fit : sum_fits c.args.variables terms constant ≡ true = sym c.if-not-fit-sum.ensures in
-    let m = made c.args.variables terms c.copy-from-slice.new.self constant c.requires.some c.requires.few fit c.copy-from-slice.ensures.after c.strongest-moment-strength.result c.strongest-moment-strength.ensures in
+    let fit : sum_fits c.args.variables terms constant ≡ true = sym c.if-not-fit_sum.ensures in
+    let m = made c.args.variables terms c.copy_from_slice.new.self constant c.requires.some c.requires.few fit c.copy_from_slice.ensures.after c.strongest_moment-strength.result c.strongest_moment-strength.ensures in
     (m.whole, (m.some, (m.few, (m.fitting, (m.small, (m.marked, tt))))))
 
 pub returns : goal.returns
 returns c =
     let terms = c.args.terms.now in
     let constant = to_z w32 (of_z w32 c.args.constant) in
-    let fit : sum_fits c.args.variables terms constant ≡ true = sym c.if-not-fit-sum.ensures in
+    let fit : sum_fits c.args.variables terms constant ≡ true = sym c.if-not-fit_sum.ensures in
     record {
-      is = made_is c.args.variables terms c.copy-from-slice.new.self constant c.requires.some c.requires.few fit c.copy-from-slice.ensures.after c.args.comparison c.args.constant (to_z-of_z w32 c.args.constant c.ranges.constant);
-      knows = kept_know c.args.variables terms c.copy-from-slice.new.self constant c.requires.some c.requires.few fit c.copy-from-slice.ensures.after;
+      is = made_is c.args.variables terms c.copy_from_slice.new.self constant c.requires.some c.requires.few fit c.copy_from_slice.ensures.after c.args.comparison c.args.constant (to_z-of_z w32 c.args.constant c.ranges.constant);
+      knows = kept_know c.args.variables terms c.copy_from_slice.new.self constant c.requires.some c.requires.few fit c.copy_from_slice.ensures.after;
     }

@@ -3,10 +3,10 @@ use Rattle.std.proofs.lemmas.Int.{to_z-of_z}
 use Rattle.numbers.proofs.Grids.{single_facts, single_is, single_none}
 use Rattle.numbers.proofs.grid.Grid.single.Goals as goal
 
-pub returns-in-default : goal.returns-in-default
-returns-in-default c =
+pub returns-in_default : goal.returns-in_default
+returns-in_default c =
     single_none c.args.low c.args.high (to_z w32 (of_z w32 c.args.low)) (to_z w32 (of_z w32 c.args.high))
-    (to_z-of_z w32 c.args.low c.ranges.low) (to_z-of_z w32 c.args.high c.ranges.high) c.in-default.ensures.is
+    (to_z-of_z w32 c.args.low c.ranges.low) (to_z-of_z w32 c.args.high c.ranges.high) c.in_default.ensures.is
 
 pub invariant-of-result : goal.invariant-of-result
 invariant-of-result c =

@@ -4,10 +4,10 @@ use Rattle.std.proofs.lemmas.Bool.{leb-true}
 use Rattle.numbers.proofs.Grids.{Grown, grown, span_fits, more_is, more_none}
 use Rattle.numbers.proofs.grid.Grid.with.Goals as goal
 
-pub returns-in-default : goal.returns-in-default
-returns-in-default c =
+pub returns-in_default : goal.returns-in_default
+returns-in_default c =
     more_none c.args.low c.args.high (to_z w32 (of_z w32 c.args.low)) (to_z w32 (of_z w32 c.args.high))
-    (to_z-of_z w32 c.args.low c.ranges.low) (to_z-of_z w32 c.args.high c.ranges.high) c.args.self c.if-self-ge8.false c.in-default.ensures.is
+    (to_z-of_z w32 c.args.low c.ranges.low) (to_z-of_z w32 c.args.high c.ranges.high) c.args.self c.if-self-ge8.false c.in_default.ensures.is
 
 pub scaled-spans-requires : goal.scaled-spans-requires
 scaled-spans-requires c =

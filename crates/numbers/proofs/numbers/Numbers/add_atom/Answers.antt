@@ -6,30 +6,30 @@ use Rattle.numbers.proofs.Filled.{refused_sum, refused_full, added_atom}
 use Rattle.numbers.proofs.Terms.{know_set}
 use Rattle.numbers.proofs.numbers.Numbers.add_atom.Goals as goal
 
-pub returns-in-default : goal.returns-in-default
-returns-in-default c =
+pub returns-in_default : goal.returns-in_default
+returns-in_default c =
     let t = c.args.self.now in
     let e = to_z-of_z w32 c.args.constant c.ranges.constant in
     let p = refused_sum t c.args.terms.now c.args.comparison c.args.constant
-    (c.in-default.ensures.is ∙ ap (λ (z : ℤ). atom_made t.grid.count c.args.terms.now c.args.comparison z) e) in
+    (c.in_default.ensures.is ∙ ap (λ (z : ℤ). atom_made t.grid.count c.args.terms.now c.args.comparison z) e) in
     record { answer = p.0; after = p.1 }
 
-pub returns-then-self-ge-MOST-ATOMS : goal.returns-then-self-ge-MOST-ATOMS
-returns-then-self-ge-MOST-ATOMS c =
+pub returns-then-self-ge-MOST_ATOMS : goal.returns-then-self-ge-MOST_ATOMS
+returns-then-self-ge-MOST_ATOMS c =
     let t = c.args.self.now in
-    let p = refused_full t c.args.terms.now c.args.comparison c.args.constant c.if-self-ge-MOST-ATOMS.true in
+    let p = refused_full t c.args.terms.now c.args.comparison c.args.constant c.if-self-ge-MOST_ATOMS.true in
     record { answer = p.0; after = p.1 }
 
 pub invariant-of-self : goal.invariant-of-self
 invariant-of-self c =
     let t = c.args.self.now in
     let a = c.in-Some.atom in
-    (t.paired, (t.counted, (length-set t.atoms t.used a ∙ t.whole, (omega (arith, t.few, c.if-self-ge-MOST-ATOMS.false), (know_set t.grid.count t.atoms t.used a c.in-Some.ensures.knows t.known, tt)))))
+    (t.paired, (t.counted, (length-set t.atoms t.used a ∙ t.whole, (omega (arith, t.few, c.if-self-ge-MOST_ATOMS.false), (know_set t.grid.count t.atoms t.used a c.in-Some.ensures.knows t.known, tt)))))
 
 pub returns : goal.returns
 returns c =
     let t = c.args.self.now in
     let e = to_z-of_z w32 c.args.constant c.ranges.constant in
-    let p = added_atom t c.args.terms.now c.args.comparison c.args.constant c.in-Some.atom (omega (arith, c.if-self-ge-MOST-ATOMS.false))
+    let p = added_atom t c.args.terms.now c.args.comparison c.args.constant c.in-Some.atom (omega (arith, c.if-self-ge-MOST_ATOMS.false))
     (c.in-Some.ensures.is ∙ ap (λ (z : ℤ). atom_made t.grid.count c.args.terms.now c.args.comparison z) e) in
     record { answer = p.0; after = p.1 }

@@ -7,20 +7,20 @@ use Rattle.numbers.proofs.Filled.{refused_name, refused_bounds, still_paired, st
 use Rattle.numbers.proofs.Rosters.{named_some}
 use Rattle.numbers.proofs.numbers.Numbers.add_variable.Goals as goal
 
-pub returns-in-default-with : goal.returns-in-default-with
-returns-in-default-with c =
+pub returns-in_default-with : goal.returns-in_default-with
+returns-in_default-with c =
     let t = c.args.self.now in
     let text = c.args.text.now in
     let named-so = named_some text (text_of c.in-Some.name) c.in-Some.ensures in
-    let p = refused_name t text c.args.low c.args.high (c.in-default-with.ensures ∙ ap (λ (x : List ℕ). texts_more t.names x) named-so.1) in
+    let p = refused_name t text c.args.low c.args.high (c.in_default-with.ensures ∙ ap (λ (x : List ℕ). texts_more t.names x) named-so.1) in
     record { answer = p.0; after = p.1 }
 
-pub returns-in-default-with-2 : goal.returns-in-default-with-2
-returns-in-default-with-2 c =
+pub returns-in_default-with-2 : goal.returns-in_default-with-2
+returns-in_default-with-2 c =
     let t = c.args.self.now in
     let el = to_z-of_z w32 c.args.low c.ranges.low in
     let eh = to_z-of_z w32 c.args.high c.ranges.high in
-    let p = refused_bounds t c.args.text.now c.args.low c.args.high (c.in-default-with-2.ensures ∙ ap₂ (grid_more t.grid) el eh) in
+    let p = refused_bounds t c.args.text.now c.args.low c.args.high (c.in_default-with-2.ensures ∙ ap₂ (grid_more t.grid) el eh) in
     record { answer = p.0; after = p.1 }
 
 pub invariant-of-self : goal.invariant-of-self

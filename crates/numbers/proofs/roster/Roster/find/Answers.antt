@@ -6,10 +6,10 @@ use Rattle.numbers.specs.Variables.{texts}
 use Rattle.numbers.proofs.Rosters.{named_none, none_named, numbered, texts_length}
 use Rattle.numbers.proofs.roster.Roster.find.Goals as goal
 
-pub returns-in-default : goal.returns-in-default
-returns-in-default c =
+pub returns-in_default : goal.returns-in_default
+returns-in_default c =
     let r = c.args.self.now in
-    sym (none_named c.args.text.now (named_none c.args.text.now c.in-default.ensures) (items r.cells r.count))
+    sym (none_named c.args.text.now (named_none c.args.text.now c.in_default.ensures) (items r.cells r.count))
 
 pub overflow-cast-result : goal.overflow-cast-result
 overflow-cast-result c =

@@ -9,14 +9,14 @@ pub overflow-cast-width : goal.overflow-cast-width
 overflow-cast-width c =
     let low = to_z w32 (of_z w32 c.args.low) in
     let high = to_z w32 (of_z w32 c.args.high) in
-    let m : Made low high c.count-values-width.result = facts_made c.args.codes low high c.count-values-width.result c.requires (sym c.if-not-fit-bounds.ensures) c.count-values-width.ensures.is in
+    let m : Made low high c.count_values-width.result = facts_made c.args.codes low high c.count_values-width.result c.requires (sym c.if-not-fit_bounds.ensures) c.count_values-width.ensures.is in
     omega arith
 
 pub invariant-of-variable : goal.invariant-of-variable
 invariant-of-variable c =
     let low = to_z w32 (of_z w32 c.args.low) in
     let high = to_z w32 (of_z w32 c.args.high) in
-    let m : Made low high c.count-values-width.result = facts_made c.args.codes low high c.count-values-width.result c.requires (sym c.if-not-fit-bounds.ensures) c.count-values-width.ensures.is in
+    let m : Made low high c.count_values-width.result = facts_made c.args.codes low high c.count_values-width.result c.requires (sym c.if-not-fit_bounds.ensures) c.count_values-width.ensures.is in
     (m.lower, (m.upper, (m.ordered, (m.counted, (m.some, (m.few, tt))))))
 
 pub returns : goal.returns
@@ -24,9 +24,9 @@ returns c =
     let low = to_z w32 (of_z w32 c.args.low) in
     let high = to_z w32 (of_z w32 c.args.high) in
     let codes = c.args.codes in
-    let fit : bounds_fit codes low high ≡ true = sym c.if-not-fit-bounds.ensures in
+    let fit : bounds_fit codes low high ≡ true = sym c.if-not-fit_bounds.ensures in
     let most = product_most codes low high fit in
     record {
       is = new_is c.args.low c.args.high low high (to_z-of_z w32 c.args.low c.ranges.low) (to_z-of_z w32 c.args.high c.ranges.high) codes fit;
-      few = ap (λ (w : ℕ). leb (codes * w) 4096) c.count-values-width.ensures.is ∙ le-leb _ 4096 most;
+      few = ap (λ (w : ℕ). leb (codes * w) 4096) c.count_values-width.ensures.is ∙ le-leb _ 4096 most;
     }

@@ -10,7 +10,7 @@ pub returns : goal.returns
 returns g c =
     let me = c.args.self.now in
     let m = g.T.Theory.meaning me.theory.now in
-    ends_decided (asked m (book_contents me.book.now) me.kept.now) (position c.args.row) c.truth-at-truth.result _
-    (omega (arith, c.last-place.ensures)) c.requires.bounded.label_fits
-    (subst (Shown m c.args.row.code Last c.truth-at-truth.result) c.atom-count.ensures c.truth-at-truth.ensures)
-    c.some-sound.ensures
+    ends_decided (asked m (book_contents me.book.now) me.kept.now) (position c.args.row) c.truth_at-truth.result _
+    (omega (arith, c.last_place.ensures)) c.requires.bounded.label_fits
+    (subst (Shown m c.args.row.code Last c.truth_at-truth.result) c.atom_count.ensures c.truth_at-truth.ensures)
+    c.some_sound.ensures
