@@ -17,7 +17,7 @@ def read(path):
 
 
 def identifiers():
-    found = {"copy_from_slice", "in_ok", "in_err", "in_default", "slice_known", "from_residual"}
+    found = {"copy_from_slice", "in_ok", "in_err", "in_default", "slice_known", "from_residual", "overflow_add", "overflow_sub", "overflow_mul", "overflow_shl", "overflow_shr", "overflow_cast", "overflow_step", "nonzero_div", "nonzero_rem", "slice_bounds", "offset_bounds", "invariant_of", "type_inv"}
     for path in glob.glob("crates/*/src/*.rt"):
         for line in read(path).splitlines():
             if not line.lstrip().startswith(("//", "ghost", "requires", "ensures")):

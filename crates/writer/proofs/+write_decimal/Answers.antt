@@ -16,8 +16,8 @@ write_decimal-place-requires t c = let more = length_step c.args.n c.if-n-lt10.f
 pub bounds-out-place : goal.bounds-out-place
 bounds-out-place t c = let more = length_step c.args.n c.if-n-lt10.false (omega arith) in search rules
 
-pub overflow-add-result-2 : goal.overflow-add-result-2
-overflow-add-result-2 t c = let more = length_step c.args.n c.if-n-lt10.false (omega arith) in search rules
+pub overflow_add-result-2 : goal.overflow_add-result-2
+overflow_add-result-2 t c = let more = length_step c.args.n c.if-n-lt10.false (omega arith) in search rules
 
 pub returns : goal.returns
 returns t c =

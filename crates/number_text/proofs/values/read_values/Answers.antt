@@ -20,8 +20,8 @@ pub loop-number-preserved : goal.loop-number-preserved
 loop-number-preserved c =
     one_more_value (numbers_of c.args.numbers.now).variables c.loop-number.number c.loop-number.code c.loop-number.rest.now _ c.loop-number.invariant.1 c.loop-number.invariant.0 _ _ (passed (numbers_of c.args.numbers.now).variables c.loop-number.number c.in-Some.low c.in-Some.high (search rules) (search rules) c.in-Some.ensures) c.in_ok-value.value.value c.in_ok-value.value.rest.now c.in_ok-value.ensures.read c.in_ok-value.ensures.below
 
-pub overflow-cast-result : goal.overflow-cast-result
-overflow-cast-result c =
+pub overflow_cast-result : goal.overflow_cast-result
+overflow_cast-result c =
     let few = code_fits (numbers_of c.args.numbers.now).variables c.loop-number.number c.loop-number.code c.loop-number.rest.now _ c.loop-number.invariant.1 c.loop-number.invariant.0 in
     omega arith
 

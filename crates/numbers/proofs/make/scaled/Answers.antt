@@ -4,8 +4,8 @@ use Rattle.std.proofs.lemmas.List.{get_or_default}
 use Rattle.numbers.proofs.Grids.{next_span, scaled_length}
 use Rattle.numbers.proofs.make.scaled.Goals as goal
 
-pub overflow-mul-scaled : goal.overflow-mul-scaled
-overflow-mul-scaled c =
+pub overflow_mul-scaled : goal.overflow_mul-scaled
+overflow_mul-scaled c =
     let i = c.loop-i.i in
     let inside : i ≤ length c.args.spans = omega arith in
     let same = next_span c.args.spans i c.args.by inside c.loop-i.scaled c.loop-i.invariant in

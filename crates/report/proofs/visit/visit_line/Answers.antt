@@ -4,8 +4,8 @@ use Rattle.report.proofs.Pieces.{begin, more}
 use Rattle.report.proofs.Visits.{shown, visit_is}
 use Rattle.report.proofs.visit.visit_line.Goals as goal
 
-pub slice-bounds-append-end-2 : goal.slice-bounds-append-end-2
-slice-bounds-append-end-2 g c =
+pub slice_bounds-append-end-2 : goal.slice_bounds-append-end-2
+slice_bounds-append-end-2 g c =
     let shows = shown (g.T.Theory.meaning c.args.theory.now).codes c.args.code (spaced (g.T.Printable.values c.args.theory.now c.args.code)) c.print.new.out c.in_ok-length.length c.print.auto.out c.in_ok-length.ensures.answer c.in_ok-length.ensures.after in
     let few : c.in_ok-length.length ≤ 64 = shows.few in
     search rules

@@ -14,8 +14,8 @@ returns c = back_ends _ _ _ _ _ _ _ c.back-test.false c.back.invariant
 pub bounds-history-left : goal.bounds-history-left
 bounds-history-left c = omega (arith, c.back.invariant.short)
 
-pub offset-bounds-history-left : goal.offset-bounds-history-left
-offset-bounds-history-left c =
+pub offset_bounds-history-left : goal.offset_bounds-history-left
+offset_bounds-history-left c =
     let same = c.back.auto.history in
     let short = c.back.invariant.short in
     let h : c.back.left < length c.args.history.now = omega arith in

@@ -6,8 +6,8 @@ use Rattle.viability.specs.Offers.{Without}
 use Rattle.viability.proofs.Bits.{in_below, without_xor}
 use Rattle.viability.proofs.labels.without.Goals as goal
 
-pub overflow-shl-result : goal.overflow-shl-result
-overflow-shl-result c = in_below _ 64 _ (omega arith) (c.if-not-contains.ensures.0 refl)
+pub overflow_shl-result : goal.overflow_shl-result
+overflow_shl-result c = in_below _ 64 _ (omega arith) (c.if-not-contains.ensures.0 refl)
 
 pub returns : goal.returns
 returns c =

@@ -3,8 +3,8 @@ use Rattle.std.proofs.lemmas.List.{length-set}
 use Rattle.flags.proofs.Atoms.{named_more, atom_added}
 use Rattle.flags.proofs.flags.Flags.add_atom.Goals as goal
 
-pub invariant-of-self : goal.invariant-of-self
-invariant-of-self c =
+pub invariant_of-self : goal.invariant_of-self
+invariant_of-self c =
     let t = c.args.self.now in
     let more = named_more t c.args.text.now c.in-Some.flag c.in-Some.ensures (omega (arith, t.spaced, t.few, c.if-self-ge-MOST_ATOMS.false)) in (
       t.whole,

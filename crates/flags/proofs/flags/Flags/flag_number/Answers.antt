@@ -9,8 +9,8 @@ returns-in_default c =
     let t = c.args.self.now in
     sym (none_named c.args.text.now (named_none c.args.text.now c.in_default.ensures) (items t.names t.count))
 
-pub overflow-cast-result : goal.overflow-cast-result
-overflow-cast-result c =
+pub overflow_cast-result : goal.overflow_cast-result
+overflow_cast-result c =
     let t = c.args.self.now in
     let number = numbered t.names t.count t.atoms c.in-Some.name c.args.text.now _ c.in-Some.ensures (c.in-Some-find.ensures.first t.indexed) in
     omega (arith, t.most, flag_below t c.args.text.now c.in-Some-find.number number)

@@ -2,6 +2,6 @@ use Rattle.std.proofs.Common.{replicate, refl, arith}
 use Rattle.flags.proofs.flags.Flags.of.Goals as goal
 use Rattle.flags.proofs.Filling.{one_indexed}
 
-pub invariant-of-result : goal.invariant-of-result
-invariant-of-result c =
+pub invariant_of-result : goal.invariant_of-result
+invariant_of-result c =
     (refl, (omega arith, (omega arith, (one_indexed c.new.result c.args.name (replicate 11 c.new.result) c.new.ensures, (refl, (omega arith, (λ k lt. absurd (omega (arith, lt)), tt)))))))

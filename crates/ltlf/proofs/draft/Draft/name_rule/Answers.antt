@@ -11,8 +11,8 @@ bounds-self-self c =
     let d = c.args.self.now in
     omega (arith, room d.rules d.named c.args.formula d.len (omega arith) d.stood d.apart (omega arith) c.if-is_rule.ensures)
 
-pub invariant-of-self : goal.invariant-of-self
-invariant-of-self c =
+pub invariant_of-self : goal.invariant_of-self
+invariant_of-self c =
     let d = c.args.self.now in
     let f = c.args.formula in
     let fresh = c.if-is_rule.ensures in

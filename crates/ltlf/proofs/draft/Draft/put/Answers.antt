@@ -9,13 +9,13 @@ returns-then-not-knows c =
     let p = put_unknown d.codes d.atoms _ d.cells d.len c.args.node d.whole d.room c.if-not-knows.ensures in
     record { answer = p.0; after = p.1 }
 
-pub overflow-cast-result : goal.overflow-cast-result
-overflow-cast-result c =
+pub overflow_cast-result : goal.overflow_cast-result
+overflow_cast-result c =
     let d = c.args.self.now in
     omega (arith, found_below d.codes d.atoms d.rules d.cells d.len c.args.node d.whole d.room c.if-not-knows.ensures _ _ (c.in-Found.ensures.settled d.indexed))
 
-pub invariant-of-self-in-Added : goal.invariant-of-self-in-Added
-invariant-of-self-in-Added c =
+pub invariant_of-self-in-Added : goal.invariant_of-self-in-Added
+invariant_of-self-in-Added c =
     let d = c.args.self.now in
     let s = c.in-Added.ensures.settled d.indexed in
     let below = added_below d.codes d.atoms d.rules d.cells d.len c.args.node d.whole d.room c.if-not-knows.ensures _ _ s in (

@@ -3,8 +3,8 @@ use Rattle.names.specs.Letters.{all_letters}
 use Rattle.names.proofs.Lettered.{name_parts, front_is, named_is, still_whole}
 use Rattle.names.proofs.name.Name.new.Goals as goal
 
-pub invariant-of-result : goal.invariant-of-result
-invariant-of-result c =
+pub invariant_of-result : goal.invariant_of-result
+invariant_of-result c =
     let parts = name_parts c.args.text.now (sym c.if-not-name_like.ensures) in
     (still_whole c.args.text.now _ (0 ∷ 0 ∷ 0 ∷ 0 ∷ 0 ∷ 0 ∷ 0 ∷ 0 ∷ []) c.copy_from_slice.ensures.after parts.1, (parts.0, (parts.1, (ap all_letters (front_is c.args.text.now _ _ c.copy_from_slice.ensures.after) ∙ parts.2, tt))))
 

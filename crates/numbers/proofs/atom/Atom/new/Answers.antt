@@ -4,8 +4,8 @@ use Rattle.numbers.specs.Limits.{sum_fits}
 use Rattle.numbers.proofs.Terms.{made, made_is, kept_know}
 use Rattle.numbers.proofs.atom.Atom.new.Goals as goal
 
-pub invariant-of-result : goal.invariant-of-result
-invariant-of-result c =
+pub invariant_of-result : goal.invariant_of-result
+invariant_of-result c =
     let terms = c.args.terms.now in
     let constant = to_z w32 (of_z w32 c.args.constant) in
     let fit : sum_fits c.args.variables terms constant ≡ true = sym c.if-not-fit_sum.ensures in

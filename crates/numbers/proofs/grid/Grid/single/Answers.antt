@@ -8,8 +8,8 @@ returns-in_default c =
     single_none c.args.low c.args.high (to_z w32 (of_z w32 c.args.low)) (to_z w32 (of_z w32 c.args.high))
     (to_z-of_z w32 c.args.low c.ranges.low) (to_z-of_z w32 c.args.high c.ranges.high) c.in_default.ensures.is
 
-pub invariant-of-result : goal.invariant-of-result
-invariant-of-result c =
+pub invariant_of-result : goal.invariant_of-result
+invariant_of-result c =
     let f = single_facts c.in-Some.variable in
     (f.whole, (f.wide, (omega arith, (omega arith, (f.ahead, (f.spanned, (f.counted, (f.coded, (c.in-Some.variable.few, tt)))))))))
 

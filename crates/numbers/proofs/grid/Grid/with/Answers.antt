@@ -16,15 +16,15 @@ scaled-spans-requires c =
     let most : g.codes * v.width ≤ 4096 = leb-true (g.codes * v.width) 4096 c.in-Some.ensures.few in
     record { few = g.few; fit = λ k h. omega (arith, span_fits g v.width 4096 most k h) }
 
-pub overflow-mul-result : goal.overflow-mul-result
-overflow-mul-result c =
+pub overflow_mul-result : goal.overflow_mul-result
+overflow_mul-result c =
     let g = c.args.self in
     let v = c.in-Some.variable in
     let most : g.codes * v.width ≤ 4096 = leb-true (g.codes * v.width) 4096 c.in-Some.ensures.few in
     omega arith
 
-pub invariant-of-result : goal.invariant-of-result
-invariant-of-result c =
+pub invariant_of-result : goal.invariant_of-result
+invariant_of-result c =
     let g = c.args.self in
     let v = c.in-Some.variable in
     let most : g.codes * v.width ≤ 4096 = leb-true (g.codes * v.width) 4096 c.in-Some.ensures.few in

@@ -20,8 +20,8 @@ returns-then-self-ge-MOST_ATOMS c =
     let p = refused_full t c.args.terms.now c.args.comparison c.args.constant c.if-self-ge-MOST_ATOMS.true in
     record { answer = p.0; after = p.1 }
 
-pub invariant-of-self : goal.invariant-of-self
-invariant-of-self c =
+pub invariant_of-self : goal.invariant_of-self
+invariant_of-self c =
     let t = c.args.self.now in
     let a = c.in-Some.atom in
     (t.paired, (t.counted, (length-set t.atoms t.used a ∙ t.whole, (omega (arith, t.few, c.if-self-ge-MOST_ATOMS.false), (know_set t.grid.count t.atoms t.used a c.in-Some.ensures.knows t.known, tt)))))

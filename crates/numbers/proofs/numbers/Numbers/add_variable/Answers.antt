@@ -23,8 +23,8 @@ returns-in_default-with-2 c =
     let p = refused_bounds t c.args.text.now c.args.low c.args.high (c.in_default-with-2.ensures ∙ ap₂ (grid_more t.grid) el eh) in
     record { answer = p.0; after = p.1 }
 
-pub invariant-of-self : goal.invariant-of-self
-invariant-of-self c =
+pub invariant_of-self : goal.invariant_of-self
+invariant_of-self c =
     let t = c.args.self.now in
     let text = c.args.text.now in
     let r = c.in-Some-with.names in

@@ -3,7 +3,7 @@ use Rattle.names.specs.Texts.{text_of}
 use Rattle.numbers.proofs.Filled.{of_facts}
 use Rattle.numbers.proofs.numbers.Numbers.of.Goals as goal
 
-pub invariant-of-result : goal.invariant-of-result
-invariant-of-result c =
+pub invariant_of-result : goal.invariant_of-result
+invariant_of-result c =
     let f = of_facts c.of.result c.args.grid c.unused.result (text_of c.args.name) c.requires c.of.ensures c.unused.ensures in
     (f.0, (f.1, (refl, (omega arith, (f.2, tt)))))

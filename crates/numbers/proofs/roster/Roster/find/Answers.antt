@@ -11,8 +11,8 @@ returns-in_default c =
     let r = c.args.self.now in
     sym (none_named c.args.text.now (named_none c.args.text.now c.in_default.ensures) (items r.cells r.count))
 
-pub overflow-cast-result : goal.overflow-cast-result
-overflow-cast-result c =
+pub overflow_cast-result : goal.overflow_cast-result
+overflow_cast-result c =
     let r = c.args.self.now in
     let number = numbered r c.in-Some.name c.args.text.now _ c.in-Some.ensures (c.in-Some-find.ensures.first r.indexed) in
     omega (arith, r.few, texts_length r, place_below bytes_eq c.args.text.now (texts r) c.in-Some-find.number (sym number))

@@ -6,8 +6,8 @@ use Rattle.numbers.specs.Limits.{within}
 use Rattle.numbers.proofs.Products.{product_within, product_is}
 use Rattle.numbers.proofs.term.Term.amount.Goals as goal
 
-pub overflow-mul-result : goal.overflow-mul-result
-overflow-mul-result c =
+pub overflow_mul-result : goal.overflow_mul-result
+overflow_mul-result c =
     let t = c.args.self in
     let small = (and_parts (ltb t.variable 8) (within 1000 t.coefficient) c.requires).1 in
     let bounded = product_within t.coefficient c.value.result small c.value.ensures.bounds in

@@ -5,15 +5,15 @@ use Rattle.numbers.specs.Limits.{bounds_fit}
 use Rattle.numbers.proofs.Grids.{Made, facts_made, product_most, new_is}
 use Rattle.numbers.proofs.variable.Variable.new.Goals as goal
 
-pub overflow-cast-width : goal.overflow-cast-width
-overflow-cast-width c =
+pub overflow_cast-width : goal.overflow_cast-width
+overflow_cast-width c =
     let low = to_z w32 (of_z w32 c.args.low) in
     let high = to_z w32 (of_z w32 c.args.high) in
     let m : Made low high c.count_values-width.result = facts_made c.args.codes low high c.count_values-width.result c.requires (sym c.if-not-fit_bounds.ensures) c.count_values-width.ensures.is in
     omega arith
 
-pub invariant-of-variable : goal.invariant-of-variable
-invariant-of-variable c =
+pub invariant_of-variable : goal.invariant_of-variable
+invariant_of-variable c =
     let low = to_z w32 (of_z w32 c.args.low) in
     let high = to_z w32 (of_z w32 c.args.high) in
     let m : Made low high c.count_values-width.result = facts_made c.args.codes low high c.count_values-width.result c.requires (sym c.if-not-fit_bounds.ensures) c.count_values-width.ensures.is in
