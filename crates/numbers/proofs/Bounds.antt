@@ -1,10 +1,10 @@
 -- What lies within ±limit, as inequalities.
-use Rattle.std.proofs.Common.{◌≡◌, ℕ, suc, ◌+◌, ◌%◌, ◌<◌, ◌≤◌, true, ℤ, pos, negsuc, ◌+ℤ◌, ◌-ℤ◌, neg_ℤ, nat_abs, ◌≤ℤ◌, sym, refl, ap, ◌∙◌, arith, w32, to_z, of_z}
-use lib.Signed.{le_z, pos-nat_abs}
+use Rattle.std.proofs.Common.{◌≡◌, ℕ, suc, ◌+◌, ◌%◌, true, ℤ, pos, negsuc, ◌+ℤ◌, ◌-ℤ◌, neg_ℤ, nat_abs, ◌≤ℤ◌, refl, ap, arith, w32, to_z, of_z}
+use lib.Signed.{le_z}
 use Rattle.std.proofs.lemmas.Nat.{mod_below}
 use Rattle.std.proofs.lemmas.Int.{ints}
 use Rattle.std.proofs.lemmas.Bool.{leb-true, le-leb}
-use Rattle.numbers.specs.Limits.{within, value_count}
+use Rattle.numbers.specs.Limits.{within}
 use Rattle.numbers.specs.declared.variable.Variable.{Variable}
 
 pub within_bounds : (k : ℕ) (z : ℤ) → within k z ≡ true → (neg_ℤ (pos k) ≤ℤ z) × (z ≤ℤ pos k)

@@ -1,7 +1,7 @@
 -- What filling answers and leaves.
-use Rattle.std.proofs.Common.{◌≡◌, ℕ, zero, suc, ◌+◌, ◌<◌, ◌≤◌, Bool, true, false, cond, not, ◌&&◌, ltb, List, [], ◌∷◌, ◌++◌, map, length, take, set, replicate, ℤ, is_some, Some, None, Ok, Err, Option, Result, sym, refl, ap, ◌∙◌, subst, ap₂, arith}
-use Rattle.std.proofs.lemmas.List.{length_push, length-set, take_more_set, map_push}
-use Rattle.std.proofs.lemmas.Bool.{cond-true, cond-false, and_from, and_parts, and_left, and_right, lt-ltb, le-ltb, ltb-true}
+use Rattle.std.proofs.Common.{◌≡◌, ℕ, zero, suc, ◌+◌, ◌<◌, ◌≤◌, Bool, true, false, not, ◌&&◌, ltb, List, [], ◌∷◌, ◌++◌, map, length, take, set, replicate, ℤ, is_some, Some, None, Ok, Err, Result, sym, refl, ap, ◌∙◌, subst, ap₂, arith}
+use Rattle.std.proofs.lemmas.List.{length_push, take_more_set, map_push}
+use Rattle.std.proofs.lemmas.Bool.{cond-true, cond-false, and_from, and_parts, and_left, and_right, lt-ltb, le-ltb}
 use Rattle.std.specs.Str.{bytes_eq}
 use Rattle.intern.specs.Index.{place}
 use Rattle.names.specs.Letters.{is_name}
@@ -14,7 +14,7 @@ use Rattle.numbers.specs.declared.numbers.Numbers.{Numbers}
 use Rattle.numbers.specs.declared.roster.Roster.{Roster}
 use Rattle.numbers.specs.declared.term.Comparison.{Comparison}
 use Rattle.numbers.specs.declared.term.Term.{Term}
-use Rattle.numbers.specs.Filling.{variable_number, as_variable, one_variable, started, may_add_variable, variable_answer, variable_leaves, may_add_atom, atom_answer, atom_leaves}
+use Rattle.numbers.specs.Filling.{started, may_add_variable, variable_answer, variable_leaves, may_add_atom, atom_answer, atom_leaves}
 use Rattle.numbers.specs.Kept.{grid_bounds, named, grid_single, grid_more, as_atom, atom_made, atom_of, atoms_know}
 use Rattle.numbers.specs.Limits.{bounds_fit, terms_fit, sum_fits}
 use Rattle.numbers.specs.Model.{NumbersModel, numbers_of, started_with, count_atoms}
@@ -24,7 +24,7 @@ use Rattle.numbers.proofs.Grids.{made_by, not_made_by}
 use Rattle.numbers.proofs.Means.{codes_are}
 use Rattle.numbers.proofs.Readings.{named_push, bounds_length, paired, count_variables, variable_names}
 use Rattle.numbers.proofs.Rosters.{named_some, texts_length}
-use Rattle.numbers.proofs.Terms.{know_more, know_set}
+use Rattle.numbers.proofs.Terms.{know_more}
 
 know_replicate : (n m : ℕ) (a : Atom) → terms_fit n a.terms ≡ true → atoms_know n (replicate m a) ≡ true
 know_replicate n zero a h = refl

@@ -1,9 +1,9 @@
 -- One variable more: the spans of the earlier ones grow by its width.
-use Rattle.std.proofs.Common.{◌≡◌, ℕ, zero, suc, ◌+◌, ◌-◌, ◌*◌, ◌<◌, ◌≤◌, Bool, true, false, cond, ◌&&◌, ltb, leb, ◌≢◌, ◌⊎◌, List, [], ◌∷◌, ◌++◌, map, length, get_or, take, drop, set, replicate, ℤ, Some, None, Option, sym, refl, ap, ◌∙◌, subst, ap₂, inl, inr, mul_assoc, arith}
+use Rattle.std.proofs.Common.{◌≡◌, ℕ, zero, suc, ◌+◌, ◌-◌, ◌*◌, ◌<◌, ◌≤◌, Bool, true, false, cond, ◌&&◌, ltb, leb, ◌⊎◌, List, [], ◌∷◌, ◌++◌, map, length, get_or, take, drop, set, replicate, ℤ, Some, None, sym, refl, ap, ◌∙◌, subst, ap₂, inl, inr, mul_assoc, arith}
 use lib.Signed.{le_z}
 use Rattle.std.proofs.lemmas.Nat.{mul-le}
-use Rattle.std.proofs.lemmas.List.{get_or_at, drop_more, length-map, length-take-le, length-set, length-append, length-drop, get_or_append_left, get_or-append_right, get_or-map, get_or-take, get_or-drop, get_or-set_same, get_or-set_other, take_more_set, map_push, drop-append-le, drop_all, length_push, get_or-replicate}
-use Rattle.std.proofs.lemmas.Bool.{and_parts, leb-true, cases_eq, cases_lt, cond-true, and_from, le-leb, lt-ltb}
+use Rattle.std.proofs.lemmas.List.{length-map, length-take-le, length-set, length-append, length-drop, get_or_append_left, get_or-append_right, get_or-map, get_or-take, get_or-drop, get_or-set_same, get_or-set_other, take_more_set, map_push, drop-append-le, drop_all, length_push, get_or-replicate}
+use Rattle.std.proofs.lemmas.Bool.{and_parts, leb-true, cases_eq, cases_lt, cond-true, and_from, lt-ltb}
 use Rattle.numbers.specs.Kept.{bounds_of, grid_bounds, variable_made, grid_single, grid_more}
 use Rattle.numbers.specs.declared.grid.Grid.{Grid}
 use Rattle.numbers.specs.declared.variable.Variable.{Variable}

@@ -1,5 +1,5 @@
 -- Every numbers theory is within the limits.
-use Rattle.std.proofs.Common.{◌≡◌, ℕ, zero, suc, ◌<◌, ◌≤◌, Bool, true, ◌&&◌, ltb, leb, List, [], ◌∷◌, map, length, get_or, take, ℤ, sym, refl, ap, ◌∙◌, subst, arith}
+use Rattle.std.proofs.Common.{◌≡◌, ℕ, zero, suc, ◌<◌, true, ◌&&◌, ltb, leb, List, [], ◌∷◌, map, length, get_or, take, sym, refl, ◌∙◌, subst, arith}
 use lib.Signed.{le_z}
 use Rattle.std.proofs.lemmas.List.{get_or-map, length-map, length-take-le}
 use Rattle.std.proofs.lemmas.Bool.{and_parts, and_from, lt-ltb, le-leb}
@@ -16,11 +16,11 @@ use Rattle.numbers.specs.declared.numbers.Numbers.{Numbers}
 use Rattle.numbers.specs.declared.roster.Roster.{Roster}
 use Rattle.numbers.specs.declared.term.Term.{Term}
 use Rattle.numbers.specs.declared.variable.Variable.{Variable}
-use Rattle.numbers.specs.Kept.{bounds_of, grid_bounds, named, atom_of, atoms_know}
+use Rattle.numbers.specs.Kept.{bounds_of, named, atom_of, atoms_know}
 use Rattle.numbers.specs.Limits.{within, term_fits, terms_fit, sum_fits}
 use Rattle.numbers.specs.Model.{numbers_of, names_of, bounds_stand, sums_stand, Within, count_atoms}
 use Rattle.numbers.specs.Variables.{texts}
-use Rattle.numbers.proofs.Readings.{paired, count_variables, variable_names}
+use Rattle.numbers.proofs.Readings.{count_variables, variable_names}
 
 all_names : (xs : List Name) (k : ℕ) → k < length (map text_of xs) → is_name (get_or (map text_of xs) k []) ≡ true
 all_names [] k lt = absurd (omega arith)

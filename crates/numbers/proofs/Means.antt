@@ -1,5 +1,5 @@
 -- What is read off the kept variables and atoms is what they mean.
-use Rattle.std.proofs.Common.{◌≡◌, ℕ, zero, suc, ◌*◌, ◌/◌, ◌%◌, ◌<◌, ◌≤◌, Bool, true, false, not, ◌&&◌, ◌||◌, ltb, List, [], ◌∷◌, length, get_or, take, drop, ℤ, pos, ◌+ℤ◌, ◌*ℤ◌, Some, None, fold, Option, sym, refl, ap, ◌∙◌, subst, ap₂, le_of_suc-le-suc, arith}
+use Rattle.std.proofs.Common.{◌≡◌, ℕ, zero, suc, ◌*◌, ◌/◌, ◌%◌, ◌<◌, Bool, true, false, not, ◌&&◌, ltb, List, [], ◌∷◌, length, get_or, take, drop, ℤ, pos, ◌+ℤ◌, ◌*ℤ◌, Some, None, fold, Option, sym, refl, ap, ◌∙◌, ap₂, le_of_suc-le-suc, arith}
 use Rattle.std.proofs.lemmas.List.{length-take-le}
 use Rattle.std.proofs.lemmas.Bool.{and_parts, ltb-true}
 use Rattle.theory.specs.declared.next.Next.{Next}
@@ -12,10 +12,10 @@ use Rattle.numbers.specs.declared.term.Moment.TheVariants as moment
 use Rattle.numbers.specs.declared.term.Term.{Term}
 use Rattle.numbers.specs.declared.variable.Variable.{Variable}
 use Rattle.numbers.specs.Kept.{bounds_of, grid_bounds, named, atom_of, kept_value, grid_value, read_at, amount_of, kept_sum, at_last, kept_holds}
-use Rattle.numbers.specs.Limits.{within, value_count, term_fits, terms_fit}
+use Rattle.numbers.specs.Limits.{within, term_fits, terms_fit}
 use Rattle.numbers.specs.Spans.{product}
-use Rattle.numbers.specs.Strength.{stronger, strongest}
-use Rattle.numbers.specs.Values.{VariableModel, AtomModel, combinations, value, code_at, times_value, term_value, plus, sum_value, compared, some_strong, judged, atom_holds}
+use Rattle.numbers.specs.Strength.{stronger}
+use Rattle.numbers.specs.Values.{VariableModel, combinations, value, code_at, times_value, term_value, plus, compared, some_strong, judged, atom_holds}
 
 pub combined : (ns : List (List ℕ)) (vs : List Variable) → length ns ≡ length vs → combinations (named ns (bounds_of vs)) ≡ product vs
 combined [] [] e = refl

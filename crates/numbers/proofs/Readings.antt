@@ -1,5 +1,5 @@
 -- What is read off a filled theory.
-use Rattle.std.proofs.Common.{◌≡◌, ℕ, zero, suc, ◌<◌, ◌≤◌, Bool, true, false, ◌&&◌, List, [], ◌∷◌, ◌++◌, map, length, get_or, take, ℤ, Some, None, Ok, Option, Result, sym, refl, ap, ◌∙◌, ap₂, le_of_suc-le-suc, arith}
+use Rattle.std.proofs.Common.{◌≡◌, ℕ, zero, suc, ◌<◌, ◌≤◌, true, false, List, [], ◌∷◌, ◌++◌, map, length, get_or, take, ℤ, Some, None, Ok, sym, refl, ap, ◌∙◌, le_of_suc-le-suc, arith}
 use Rattle.std.proofs.lemmas.List.{length-map, length-take-le, get_or-map, get_or-take}
 use Rattle.std.proofs.lemmas.Bool.{and_parts}
 use Rattle.std.proofs.lemmas.Bool.Decides.{nat_tests}
@@ -15,7 +15,7 @@ use Rattle.numbers.specs.Kept.{bounds_of, grid_bounds, named, atom_of, atoms_kno
 use Rattle.numbers.specs.Limits.{terms_fit}
 use Rattle.numbers.specs.Model.{numbers_of, numbers_meaning}
 use Rattle.numbers.specs.Values.{VariableModel, atom_holds}
-use Rattle.numbers.specs.Variables.{texts, variables_of}
+use Rattle.numbers.specs.Variables.{texts}
 use Rattle.numbers.proofs.Means.{holds_is}
 use Rattle.numbers.proofs.Rosters.{texts_length}
 

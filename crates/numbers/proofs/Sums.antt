@@ -8,7 +8,7 @@ use Rattle.numbers.specs.declared.grid.Grid.{Grid}
 use Rattle.numbers.specs.declared.term.Term.{Term}
 use Rattle.numbers.specs.declared.variable.Variable.{Variable}
 use Rattle.numbers.specs.Kept.{kept_value, amount_of, kept_sum}
-use Rattle.numbers.specs.Limits.{within, term_fits, terms_fit}
+use Rattle.numbers.specs.Limits.{term_fits, terms_fit}
 
 -- each of fitting terms fits
 pub term_at : (variables : ℕ) (ts : List Term) (i : ℕ) (d : Term) → i < length ts → terms_fit variables ts ≡ true → term_fits variables (get_or ts i d) ≡ true

@@ -10,7 +10,7 @@ invariant_of-result c =
     let constant = to_z w32 (of_z w32 c.args.constant) in
     let fit : sum_fits c.args.variables terms constant ≡ true = sym c.if-not-fit_sum.ensures in
     let m = made c.args.variables terms c.copy_from_slice.new.self constant c.requires.some c.requires.few fit c.copy_from_slice.ensures.after c.strongest_moment-strength.result c.strongest_moment-strength.ensures in
-    (m.whole, (m.some, (m.few, (m.fitting, (m.small, (m.marked, tt))))))
+    record { whole = m.whole; some = m.some; few = m.few; fitting = m.fitting; small = m.small; marked = m.marked }
 
 pub returns : goal.returns
 returns c =

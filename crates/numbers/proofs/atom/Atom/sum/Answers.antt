@@ -1,4 +1,4 @@
-use Rattle.std.proofs.Common.{◌∙◌, arith, rules}
+use Rattle.std.proofs.Common.{◌∙◌, arith}
 use Rattle.std.proofs.lemmas.Int.{ints}
 use Rattle.numbers.proofs.Sums.{term_at, sum_is, sum_more}
 use Rattle.numbers.proofs.atom.Atom.sum.Goals as goal

@@ -1,4 +1,4 @@
-use Rattle.std.proofs.Common.{replicate, refl, arith, w32, to_z, of_z}
+use Rattle.std.proofs.Common.{arith, w32, to_z, of_z}
 use Rattle.std.proofs.lemmas.Int.{to_z-of_z}
 use Rattle.numbers.proofs.Grids.{single_facts, single_is, single_none}
 use Rattle.numbers.proofs.grid.Grid.single.Goals as goal
@@ -11,7 +11,7 @@ returns-in_default c =
 pub invariant_of-result : goal.invariant_of-result
 invariant_of-result c =
     let f = single_facts c.in-Some.variable in
-    (f.whole, (f.wide, (omega arith, (omega arith, (f.ahead, (f.spanned, (f.counted, (f.coded, (c.in-Some.variable.few, tt)))))))))
+    record { whole = f.whole; wide = f.wide; some = omega arith; few = omega arith; ahead = f.ahead; spanned = f.spanned; counted = f.counted; coded = f.coded; most = c.in-Some.variable.few }
 
 pub returns : goal.returns
 returns c =

@@ -1,4 +1,4 @@
-use Rattle.std.proofs.Common.{ℕ, ◌+◌, ◌*◌, ◌<◌, ◌≤◌, List, set, sym, subst, arith, w32, to_z, of_z}
+use Rattle.std.proofs.Common.{ℕ, ◌+◌, ◌*◌, ◌≤◌, List, set, sym, subst, arith, w32, to_z, of_z}
 use Rattle.std.proofs.lemmas.Int.{to_z-of_z}
 use Rattle.std.proofs.lemmas.Bool.{leb-true}
 use Rattle.numbers.proofs.Grids.{Grown, grown, span_fits, more_is, more_none}
@@ -30,7 +30,7 @@ invariant_of-result c =
     let most : g.codes * v.width ≤ 4096 = leb-true (g.codes * v.width) 4096 c.in-Some.ensures.few in
     let f : Grown (set g.variables g.count v) (set c.scaled-spans.result g.count 1) (g.count + 1) (g.codes * v.width) =
     subst (λ (xs : List ℕ). Grown (set g.variables g.count v) (set xs g.count 1) (g.count + 1) (g.codes * v.width)) (sym c.scaled-spans.ensures) (grown g v c.if-self-ge8.false) in
-    (f.whole, (f.wide, (omega arith, (omega (arith, c.if-self-ge8.false), (f.ahead, (f.spanned, (f.counted, (f.coded, (most, tt)))))))))
+    record { whole = f.whole; wide = f.wide; some = omega arith; few = omega (arith, c.if-self-ge8.false); ahead = f.ahead; spanned = f.spanned; counted = f.counted; coded = f.coded; most = most }
 
 pub returns : goal.returns
 returns c =

@@ -1,4 +1,4 @@
-use Rattle.std.proofs.Common.{◌≡◌, ℤ, ap, ◌∙◌, arith, w32, to_z, of_z}
+use Rattle.std.proofs.Common.{ℤ, ap, ◌∙◌, arith, w32}
 use Rattle.std.proofs.lemmas.List.{length-set}
 use Rattle.std.proofs.lemmas.Int.{to_z-of_z}
 use Rattle.numbers.specs.Kept.{atom_made}
@@ -24,7 +24,13 @@ pub invariant_of-self : goal.invariant_of-self
 invariant_of-self c =
     let t = c.args.self.now in
     let a = c.in-Some.atom in
-    (t.paired, (t.counted, (length-set t.atoms t.used a ∙ t.whole, (omega (arith, t.few, c.if-self-ge-MOST_ATOMS.false), (know_set t.grid.count t.atoms t.used a c.in-Some.ensures.knows t.known, tt)))))
+    record {
+      paired = t.paired;
+      counted = t.counted;
+      whole = length-set t.atoms t.used a ∙ t.whole;
+      few = omega (arith, t.few, c.if-self-ge-MOST_ATOMS.false);
+      known = know_set t.grid.count t.atoms t.used a c.in-Some.ensures.knows t.known;
+    }
 
 pub returns : goal.returns
 returns c =

@@ -1,4 +1,4 @@
-use Rattle.std.proofs.Common.{◌≡◌, ℕ, List, Some, None, sym, ap, ◌∙◌, ap₂, arith, w32, to_z, of_z}
+use Rattle.std.proofs.Common.{◌≡◌, ℕ, List, Some, ap, ◌∙◌, ap₂, w32}
 use Rattle.names.specs.Texts.{text_of}
 use Rattle.std.proofs.lemmas.Int.{to_z-of_z}
 use Rattle.numbers.specs.Kept.{grid_bounds, grid_more}
@@ -32,13 +32,13 @@ invariant_of-self c =
     let named-so = named_some text (text_of c.in-Some.name) c.in-Some.ensures in
     let is-r : Some (texts r) ≡ texts_more t.names text = c.in-Some-with.ensures ∙ ap (λ (x : List ℕ). texts_more t.names x) named-so.1 in
     let is-g : Some (grid_bounds g) ≡ grid_more t.grid c.args.low c.args.high =
-    c.in-Some-with-2.ensures ∙ ap₂ (grid_more t.grid) (to_z-of_z w32 c.args.low c.ranges.low) (to_z-of_z w32 c.args.high c.ranges.high) in (
-      still_paired t text c.args.low c.args.high r g named-so.0 is-r is-g,
-      (
-        still_counted t text c.args.low c.args.high r g named-so.0 is-r is-g,
-        (t.whole, (t.few, (still_known t text c.args.low c.args.high r g named-so.0 is-r is-g, tt))),
-      ),
-    )
+    c.in-Some-with-2.ensures ∙ ap₂ (grid_more t.grid) (to_z-of_z w32 c.args.low c.ranges.low) (to_z-of_z w32 c.args.high c.ranges.high) in record {
+      paired = still_paired t text c.args.low c.args.high r g named-so.0 is-r is-g;
+      counted = still_counted t text c.args.low c.args.high r g named-so.0 is-r is-g;
+      whole = t.whole;
+      few = t.few;
+      known = still_known t text c.args.low c.args.high r g named-so.0 is-r is-g;
+    }
 
 pub returns : goal.returns
 returns c =

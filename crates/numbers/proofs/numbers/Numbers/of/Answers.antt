@@ -6,4 +6,4 @@ use Rattle.numbers.proofs.numbers.Numbers.of.Goals as goal
 pub invariant_of-result : goal.invariant_of-result
 invariant_of-result c =
     let f = of_facts c.of.result c.args.grid c.unused.result (text_of c.args.name) c.requires c.of.ensures c.unused.ensures in
-    (f.0, (f.1, (refl, (omega arith, (f.2, tt)))))
+    record { paired = f.0; counted = f.1; whole = refl; few = omega arith; known = f.2 }

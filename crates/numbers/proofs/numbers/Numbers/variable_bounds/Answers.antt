@@ -1,4 +1,4 @@
-use Rattle.std.proofs.Common.{get_or, ℤ, Some, Option, ◌∙◌, ap₂}
+use Rattle.std.proofs.Common.{get_or, ℤ, Some, ◌∙◌, ap₂}
 use Rattle.numbers.proofs.Bounds.{passed}
 use Rattle.numbers.proofs.Readings.{bounds_none, bounds_some}
 use Rattle.numbers.proofs.numbers.Numbers.variable_bounds.Goals as goal

@@ -4,4 +4,4 @@ use Rattle.numbers.proofs.roster.Roster.of.Goals as goal
 
 pub invariant_of-result : goal.invariant_of-result
 invariant_of-result c =
-    (refl, (omega arith, (omega arith, (one_indexed c.new.result c.args.name (replicate 7 c.new.result) c.new.ensures, tt))))
+    record { whole = refl; some = omega arith; few = omega arith; indexed = one_indexed c.new.result c.args.name (replicate 7 c.new.result) c.new.ensures }

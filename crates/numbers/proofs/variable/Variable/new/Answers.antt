@@ -1,4 +1,4 @@
-use Rattle.std.proofs.Common.{◌≡◌, ℕ, ◌*◌, true, leb, sym, ap, ◌∙◌, subst, arith, w32, to_z, of_z}
+use Rattle.std.proofs.Common.{◌≡◌, ℕ, ◌*◌, true, leb, sym, ap, ◌∙◌, arith, w32, to_z, of_z}
 use Rattle.std.proofs.lemmas.Int.{to_z-of_z}
 use Rattle.std.proofs.lemmas.Bool.{le-leb}
 use Rattle.numbers.specs.Limits.{bounds_fit}
@@ -17,7 +17,7 @@ invariant_of-variable c =
     let low = to_z w32 (of_z w32 c.args.low) in
     let high = to_z w32 (of_z w32 c.args.high) in
     let m : Made low high c.count_values-width.result = facts_made c.args.codes low high c.count_values-width.result c.requires (sym c.if-not-fit_bounds.ensures) c.count_values-width.ensures.is in
-    (m.lower, (m.upper, (m.ordered, (m.counted, (m.some, (m.few, tt))))))
+    record { lower = m.lower; upper = m.upper; ordered = m.ordered; counted = m.counted; some = m.some; few = m.few }
 
 pub returns : goal.returns
 returns c =
