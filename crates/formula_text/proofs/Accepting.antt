@@ -1,20 +1,18 @@
 -- What is read is a written formula.
-use Rattle.std.proofs.Common.{◌≡◌, ℕ, zero, suc, ◌-◌, ◌^◌, ◌<◌, ◌≤◌, max, Bool, true, false, cond, not, eqb, ltb, ◌⊎◌, List, [], ◌∷◌, ◌++◌, Some, None, Ok, Err, decimal, Option, Result, sym, refl, ap, ◌∙◌, subst, inl, inr, ⊎_elim, append_assoc, arith}
+use Rattle.std.proofs.Common.{◌≡◌, ℕ, zero, suc, ◌≤◌, Bool, true, false, not, eqb, List, [], ◌∷◌, ◌++◌, Some, None, Ok, Err, decimal, Result, sym, refl, ap, ◌∙◌, ⊎_elim, append_assoc, arith}
 use Rattle.std.proofs.lemmas.Bool.{cond-true, cond-false, cond_both, eqb-true, cases_Bool}
 use Rattle.refusal.specs.declared.Refusal.{Refusal}
 use Rattle.ltlf.specs.Contents.{Contents, put_answer, put_leaves}
 use Rattle.ltlf.specs.declared.node.Node.{Node}
-use Rattle.items.specs.Numbers.{Reading, begins_with_digit, natural_read, Writes}
+use Rattle.items.specs.Numbers.{Reading, natural_read}
 use Rattle.items.proofs.Decimal.{natural_law}
 use Rattle.formula_text.specs.Operators.{operator_of, constant_node, atom_node, one_node, two_node}
-use Rattle.formula_text.specs.Formulas.{Outcome, stopped, found, Reader, placed, put_read, and_then, spaced, inside, operand, paired, atom_read, atom_put, by_operator, formula_read}
+use Rattle.formula_text.specs.Formulas.{Outcome, stopped, found, Reader, placed, put_read, and_then, inside, operand, paired, atom_read, atom_put, by_operator, formula_read}
 use Rattle.formula_text.specs.declared.operator.Operator.{Operator}
 use Rattle.formula_text.specs.declared.operator.Operator.TheVariants.{Constant, Not, Single, Fixed, Pair, Other}
-use Rattle.formula_text.specs.declared.operator.One.{One}
-use Rattle.formula_text.specs.declared.operator.One.TheVariants as one
 use Rattle.formula_text.specs.declared.operator.Two.{Two}
 use Rattle.formula_text.specs.declared.operator.Two.TheVariants as two
-use Rattle.formula_text.specs.Grammar.{Written, Built, refused, made, constant, atom, negation, single, finally, globally, pair, one_sign, two_sign, constant_sign, write, depth, AtomsBelow, then, numbered, put_in, built, Accepted, ReadIsWritten}
+use Rattle.formula_text.specs.Grammar.{Written, made, constant, atom, negation, single, finally, globally, pair, one_sign, two_sign, constant_sign, write, depth, AtomsBelow, then, numbered, put_in, built, Accepted, ReadIsWritten}
 
 -- what a draft holds, a number in it, and what is left of a text
 abbrev Triple : Type 0

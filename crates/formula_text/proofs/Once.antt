@@ -1,9 +1,9 @@
 -- A text writes one formula only: the formula can be told from its text.
-use Rattle.std.proofs.Common.{◌≡◌, ℕ, zero, suc, ◌<◌, ◌≤◌, max, Bool, true, false, List, [], ◌∷◌, ◌++◌, drop, Some, None, decimal, Option, sym, refl, ap, ◌∙◌, append_assoc, append-nil, arith}
+use Rattle.std.proofs.Common.{◌≡◌, ℕ, zero, suc, ◌≤◌, max, true, false, List, [], ◌∷◌, ◌++◌, drop, Some, None, decimal, Option, sym, refl, ap, ◌∙◌, append_assoc, arith}
 use Rattle.std.specs.Str.Parse.{IsNumeral}
 use Rattle.std.proofs.lemmas.Str.Parse.{digit_from_value}
 use Rattle.std.proofs.lemmas.Fmt.{decimal_is_IsNumeral}
-use Rattle.items.specs.Numbers.{Reading, begins_with_digit, natural_read, Writes}
+use Rattle.items.specs.Numbers.{Reading, begins_with_digit, natural_read}
 use Rattle.items.proofs.Decimal.{natural_law}
 use Rattle.formula_text.specs.Operators.{operator_of}
 use Rattle.formula_text.specs.declared.operator.Operator.{Operator}

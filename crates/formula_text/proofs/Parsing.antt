@@ -1,5 +1,5 @@
 -- Reading what is written.
-use Rattle.std.proofs.Common.{◌≡◌, ℕ, zero, suc, ◌-◌, ◌^◌, ◌<◌, ◌≤◌, max, Bool, true, false, cond, not, List, [], ◌∷◌, ◌++◌, Some, None, Ok, Err, decimal, Option, Result, sym, refl, ap, ◌∙◌, subst, append_assoc, arith}
+use Rattle.std.proofs.Common.{◌≡◌, ℕ, zero, suc, ◌<◌, ◌≤◌, Bool, true, false, not, List, [], ◌∷◌, ◌++◌, Ok, Err, decimal, Result, refl, ap, ◌∙◌, append_assoc, arith}
 use Rattle.std.proofs.lemmas.Bool.Decides.{nat_tests}
 use Rattle.std.proofs.lemmas.Str.Parse.{digit_from_value}
 use Rattle.std.proofs.lemmas.Fmt.{decimal_is_IsNumeral}
@@ -7,17 +7,16 @@ use Rattle.std.specs.Str.Parse.{IsNumeral}
 use Rattle.refusal.specs.declared.Refusal.{Refusal}
 use Rattle.ltlf.specs.Contents.{Contents, put_answer, put_leaves}
 use Rattle.ltlf.specs.declared.node.Node.{Node}
-use Rattle.items.specs.Numbers.{begins_with_digit, natural_read, Writes}
+use Rattle.items.specs.Numbers.{begins_with_digit}
 use Rattle.items.proofs.Decimal.{natural_law}
 use Rattle.formula_text.specs.Operators.{operator_of, constant_node, atom_node, one_node, two_node}
-use Rattle.formula_text.specs.Formulas.{Outcome, stopped, found, Reader, placed, put_read, and_then, operand, paired, atom_read, atom_put, by_operator, formula_read}
-use Rattle.formula_text.specs.declared.operator.Operator.{Operator}
-use Rattle.formula_text.specs.declared.operator.Operator.TheVariants.{Constant, Not, Single, Fixed, Pair, Other}
+use Rattle.formula_text.specs.Formulas.{Outcome, Reader, placed, put_read, and_then, paired, atom_read, atom_put, by_operator, formula_read}
+use Rattle.formula_text.specs.declared.operator.Operator.TheVariants.{Constant, Single, Pair, Other}
 use Rattle.formula_text.specs.declared.operator.One.{One}
 use Rattle.formula_text.specs.declared.operator.One.TheVariants as one
 use Rattle.formula_text.specs.declared.operator.Two.{Two}
 use Rattle.formula_text.specs.declared.operator.Two.TheVariants as two
-use Rattle.formula_text.specs.Grammar.{Written, Built, refused, made, constant, atom, negation, single, finally, globally, pair, one_sign, two_sign, constant_sign, write, depth, AtomsBelow, then, numbered, put_in, built, before, ReadsWritten}
+use Rattle.formula_text.specs.Grammar.{Built, refused, made, constant, atom, negation, single, finally, globally, pair, one_sign, two_sign, constant_sign, write, then, numbered, put_in, built, before, ReadsWritten}
 
 put_before : (node : Node) (rest : List ℕ) (b : Contents) → put_read node rest b ≡ before rest (put_in node b)
 unfolding put_read

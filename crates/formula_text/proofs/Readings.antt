@@ -1,11 +1,11 @@
 -- How a reading goes on with what stands in front.
-use Rattle.std.proofs.Common.{◌≡◌, ℕ, zero, suc, ◌-◌, ◌<◌, ◌≤◌, Bool, true, false, cond, not, List, [], ◌∷◌, length, get_or, take, drop, Some, None, Ok, Err, Option, Result, sym, refl, ap, ◌∙◌, subst, arith}
+use Rattle.std.proofs.Common.{◌≡◌, ℕ, zero, suc, ◌-◌, ◌<◌, Bool, not, List, [], ◌∷◌, length, get_or, take, drop, Some, None, Ok, Err, sym, refl, ap, ◌∙◌, arith}
 use Rattle.std.proofs.lemmas.List.{take_rest}
 use Rattle.refusal.specs.declared.Refusal.{Refusal}
 use Rattle.ltlf.specs.declared.node.Node.{Node}
 use Rattle.ltlf.specs.Contents.{Contents, put_answer, put_leaves}
 use Rattle.formula_text.specs.declared.operator.Operator.{Operator}
-use Rattle.formula_text.specs.declared.operator.Operator.TheVariants.{Constant, Not, Single, Fixed, Pair, Other}
+use Rattle.formula_text.specs.declared.operator.Operator.TheVariants.{Constant, Not, Single, Other}
 use Rattle.formula_text.specs.declared.operator.One.{One}
 use Rattle.formula_text.specs.declared.operator.Two.{Two}
 use Rattle.formula_text.specs.Formulas.{Outcome, stopped, found, Reader, spaced, inside, operand, and_then, placed, put_read, paired, atom_read, by_operator, formula_read}

@@ -1,5 +1,5 @@
 -- Where what was built stands.
-use Rattle.std.proofs.Common.{◌≡◌, ℕ, zero, suc, ◌+◌, Bool, true, false, cond, not, ltb, ◌⊎◌, List, [], ◌∷◌, ◌++◌, length, Some, None, Ok, Err, Option, Result, sym, refl, ap, ◌∙◌, subst, inl, inr, ⊎_elim, append_assoc, append-nil, arith}
+use Rattle.std.proofs.Common.{◌≡◌, ℕ, zero, suc, Bool, true, false, cond, not, ltb, List, [], ◌∷◌, ◌++◌, length, Some, None, Ok, Err, Option, Result, sym, refl, ap, ◌∙◌, subst, ⊎_elim, append_assoc, append-nil, arith}
 use Rattle.std.proofs.lemmas.Bool.{cond-true, cond-false, cases_Bool}
 use Rattle.refusal.specs.declared.Refusal.{Refusal}
 use Rattle.refusal.specs.declared.Refusal.TheVariants.{Unknown, TooManyFormulas}
@@ -9,7 +9,7 @@ use Rattle.ltlf.specs.Contents as ltlf
 use Rattle.ltlf.specs.Contents.{Contents, put_answer, with_new, put_leaves}
 use Rattle.ltlf.specs.declared.node.Node.{Node}
 use Rattle.formula_text.specs.Operators.{constant_node, atom_node, one_node, two_node}
-use Rattle.formula_text.specs.Grammar.{Written, Built, refused, made, constant, atom, negation, single, finally, globally, pair, then, numbered, put_in, built}
+use Rattle.formula_text.specs.Grammar.{Built, refused, made, constant, atom, negation, single, finally, globally, pair, then, numbered, put_in, built}
 use Rattle.formula_text.specs.Trees.{Tree, value, literal, over, both, dual_one, dual_two, pushed, At, Stands, Grown, BuiltStands}
 use Rattle.formula_text.specs.declared.operator.One.{One}
 use Rattle.formula_text.specs.declared.operator.One.TheVariants as one

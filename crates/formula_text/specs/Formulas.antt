@@ -1,5 +1,5 @@
 -- How the text of a formula is read into a draft: operator first, one space between items.
-use Rattle.std.specs.Prelude.{ℕ, zero, suc, Bool, true, false, cond, not, List, [], ◌∷◌, Some, None, Ok, Err, Option, Result}
+use Rattle.std.specs.Prelude.{ℕ, zero, suc, Bool, not, List, [], ◌∷◌, Some, None, Ok, Err, Option, Result}
 use Rattle.refusal.specs.declared.Refusal.{Refusal}
 use Rattle.ltlf.specs.Contents.{Contents, put_answer, put_leaves}
 use Rattle.ltlf.specs.declared.node.Node.{Node}

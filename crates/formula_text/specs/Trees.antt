@@ -3,7 +3,7 @@ use Rattle.std.specs.Prelude.{◌≡◌, ℕ, zero, suc, Bool, true, false, cond
 use Rattle.ltlf.specs.Contents.{Contents}
 use Rattle.ltlf.specs.declared.node.Node.{Node}
 use Rattle.formula_text.specs.Operators.{constant_node, atom_node, one_node, two_node}
-use Rattle.formula_text.specs.Grammar.{Written, constant, atom, negation, single, finally, globally, pair, Built, made, built}
+use Rattle.formula_text.specs.Grammar.{Written, constant, atom, negation, single, finally, globally, pair, made, built}
 use Rattle.formula_text.specs.declared.operator.One.{One}
 use Rattle.formula_text.specs.declared.operator.One.TheVariants as one
 use Rattle.formula_text.specs.declared.operator.Two.{Two}

@@ -1,2 +1,3 @@
 pub mod Nodes
 pub mod Contents
+pub mod Equal

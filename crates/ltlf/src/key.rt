@@ -1,7 +1,8 @@
 // The key by which a formula is found among those put before.
 ghost use Rattle.std.specs.Prelude.{◌≡◌};
 ghost use Rattle.ltlf.specs.Nodes.{same, key, node_turn};
-ghost use borrow.Author.Rules.{rules};
+ghost use Rattle.std.proofs.Common.{rules, ◌∙◌};
+ghost use Rattle.ltlf.specs.Equal.{derived_is_same};
 
 use super::node::Node;
 use intern::Keyed;
@@ -31,7 +32,7 @@ impl Keyed for Node {
 
     ghost turns = { node_turn };
 
-    ghost decides = { unfold same in Prim.search rules };
+    ghost decides = { λ x y b e. e ∙ derived_is_same x y };
 
     ghost reflexive = { unfold same in Prim.search rules };
 

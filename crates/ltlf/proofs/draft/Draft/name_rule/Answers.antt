@@ -20,7 +20,18 @@ invariant_of-self c =
     let within : d.named < length d.rules = omega arith in
     let stood = stood_more d.rules d.named f d.len (omega arith) d.stood d.apart (omega arith) fresh within in
     let apart = apart_more d.rules d.named f d.len (omega arith) d.stood d.apart (omega arith) fresh within in
-    (d.room, (d.whole, (d.indexed, (d.before, (omega arith, (length-set d.rules d.named f ∙ d.spaced, (stood, (apart, (d.coded, (d.told, tt))))))))))
+    record {
+      room = d.room;
+      whole = d.whole;
+      indexed = d.indexed;
+      before = d.before;
+      few = omega arith;
+      spaced = length-set d.rules d.named f ∙ d.spaced;
+      stood = stood;
+      apart = apart;
+      coded = d.coded;
+      told = d.told;
+    }
 
 pub returns-then-formula-self : goal.returns-then-formula-self
 returns-then-formula-self c =

@@ -5,4 +5,15 @@ use Rattle.ltlf.proofs.draft.Draft.new.Goals as goal
 pub invariant_of-result : goal.invariant_of-result
 unfolding indexed_from
 invariant_of-result c =
-    (omega arith, (refl, (refl, (λ k h. absurd (omega arith), (omega arith, (refl, (λ i h. absurd (omega arith), (λ i j lt h e. absurd (omega arith), (omega arith, (omega arith, tt))))))))))
+    record {
+      room = omega arith;
+      whole = refl;
+      indexed = refl;
+      before = λ k h. absurd (omega arith);
+      few = omega arith;
+      spaced = refl;
+      stood = λ i h. absurd (omega arith);
+      apart = λ i j lt h e. absurd (omega arith);
+      coded = omega arith;
+      told = omega arith;
+    }

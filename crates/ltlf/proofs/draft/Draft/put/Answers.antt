@@ -18,22 +18,19 @@ pub invariant_of-self-in-Added : goal.invariant_of-self-in-Added
 invariant_of-self-in-Added c =
     let d = c.args.self.now in
     let s = c.in-Added.ensures.settled d.indexed in
-    let below = added_below d.codes d.atoms d.rules d.cells d.len c.args.node d.whole d.room c.if-not-knows.ensures _ _ s in (
-      omega (arith, below.1),
-      (
-        s.same_length ∙ d.whole,
-        (
-          s.indexed,
-          (
-            before_more d.codes d.atoms d.rules d.cells d.len c.args.node d.whole d.room c.if-not-knows.ensures _ _ s d.before,
-            (
-              d.few,
-              (d.spaced, (λ i h. omega (arith, d.stood i h), (d.apart, (d.coded, (d.told, tt))))),
-            ),
-          ),
-        ),
-      ),
-    )
+    let below = added_below d.codes d.atoms d.rules d.cells d.len c.args.node d.whole d.room c.if-not-knows.ensures _ _ s in
+    record {
+      room = omega (arith, below.1);
+      whole = s.same_length ∙ d.whole;
+      indexed = s.indexed;
+      before = before_more d.codes d.atoms d.rules d.cells d.len c.args.node d.whole d.room c.if-not-knows.ensures _ _ s d.before;
+      few = d.few;
+      spaced = d.spaced;
+      stood = λ i h. omega (arith, d.stood i h);
+      apart = d.apart;
+      coded = d.coded;
+      told = d.told;
+    }
 
 pub returns-in-Found : goal.returns-in-Found
 returns-in-Found c =
