@@ -83,11 +83,11 @@ module _ (r : RecordModel) (b : Contents) (m : Meaning) (visits : List ℕ) (agr
         unmet = λ h. j.unmet (is ∙ h);
       }
 
-  pub question_searched : r.kept ≤ 1024 → (rows entries : ℕ) → search_check m b (kept_visits r visits) rows entries ≡ question_check r b m visits rows entries
-  question_searched few rows entries =
-      pass_not _ _ _ same ∙ pass_by _ _ _ (le-ltb 65536 (length (kept_visits r visits)) (omega (arith, kept_length)))
+  pub question_searched : r.kept ≤ 1024 → b.atoms ≤ 32 → (rows entries : ℕ) → search_check m b (kept_visits r visits) rows entries ≡ question_check r b m visits rows entries
+  question_searched few told rows entries =
+      pass_by _ _ _ (le-ltb 32 b.atoms told) ∙ pass_not _ _ _ same ∙ pass_by _ _ _ (le-ltb 65536 (length (kept_visits r visits)) (omega (arith, kept_length)))
       ∙ sym (pass_not _ _ _ agree ∙ pass_by _ _ _ long)
 
-  pub question_answered : r.kept ≤ 1024 → (rows entries : ℕ) → search_answer m b (kept_visits r visits) rows entries ≡ question_answer r b m visits rows entries
-  question_answered few rows entries =
-      ap (λ (c : Result (Unit {0}) Refusal). unless_refused c (outcome_of (answer (question_of r b m visits) rows))) (question_searched few rows entries)
+  pub question_answered : r.kept ≤ 1024 → b.atoms ≤ 32 → (rows entries : ℕ) → search_answer m b (kept_visits r visits) rows entries ≡ question_answer r b m visits rows entries
+  question_answered few told rows entries =
+      ap (λ (c : Result (Unit {0}) Refusal). unless_refused c (outcome_of (answer (question_of r b m visits) rows))) (question_searched few told rows entries)

@@ -12,7 +12,7 @@ returns g c =
     let b = book_contents c.args.book.now in
     let m = g.T.Theory.meaning c.args.theory.now in
     let visits = c.args.visits.now in
-    let same = c.kept-kept.ensures.0 in
+    let same = c.kept-kept.ensures.value in
     stood r b m visits (sym c.if-not-counts_agree.ensures) (omega (arith, same, c.if-visits-kept.false)) (ne_eqb _ _ (λ none. c.if-kept-eq0.false (same ∙ none)))
     c.judge.result
     (subst (λ (n : ℕ). Judged m b (take n visits) c.judge.result) same c.judge.ensures)
