@@ -1,8 +1,8 @@
 -- What is read within a limit lies within it.
-use Rattle.std.proofs.Common.{◌≡◌, ℕ, zero, suc, ◌^◌, ◌<◌, ◌≤◌, Bool, true, false, cond, eqb, ◌⊎◌, List, [], ◌∷◌, ℤ, pos, negsuc, nat_abs, Some, None, Option, sym, refl, ap, ◌∙◌, inl, inr, ⊎_elim, arith, w32, w64, SFits, to_z, of_z}
+use Rattle.std.proofs.Common.{◌≡◌, ℕ, zero, suc, ◌^◌, ◌<◌, ◌≤◌, eqb, List, [], ◌∷◌, ℤ, pos, negsuc, nat_abs, Some, None, sym, refl, ap, ◌∙◌, ⊎_elim, arith, w32, w64, SFits, to_z, of_z}
 use Rattle.std.proofs.lemmas.Int.{to_z-of_z}
 use Rattle.std.proofs.lemmas.Bool.{cond-true, cond-false, cases_Bool}
-use Rattle.items.specs.Numbers.{Reading, SignedReading, natural_read, integer_read, as_signed, below, minus}
+use Rattle.items.specs.Numbers.{Reading, natural_read, integer_read, as_signed, minus}
 use Rattle.items.proofs.Decimal.{natural_law}
 
 plain : (limit : ℕ) → limit < 2 ^ 64 → (bs : List ℕ) (z : ℤ) (rest : List ℕ) (r : Reading) → r ≡ natural_read limit bs → Some (z, rest) ≡ as_signed r → nat_abs z ≤ limit

@@ -1,5 +1,5 @@
 -- The line of a variable.
-use Rattle.std.specs.Prelude.{ℕ, List, [], ◌∷◌, ℤ, Some, None, Option}
+use Rattle.std.specs.Prelude.{ℕ, List, [], ◌∷◌, Some, None, Option}
 use Rattle.items.specs.Lines.{behind}
 use Rattle.items.specs.Names.{name_read}
 use Rattle.items.specs.Numbers.{integer_read}

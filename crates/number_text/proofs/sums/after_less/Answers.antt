@@ -1,4 +1,4 @@
-use Rattle.std.proofs.Common.{sym, ap, ◌∙◌, rules}
+use Rattle.std.proofs.Common.{sym, ap, rules}
 use Rattle.number_text.specs.Sums.{less_read}
 use Rattle.items.proofs.Fronts.{front₁}
 use Rattle.number_text.proofs.sums.after_less.Goals as goal

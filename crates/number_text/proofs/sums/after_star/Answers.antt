@@ -1,4 +1,4 @@
-use Rattle.std.proofs.Common.{[], ◌∷◌, sym, ap, ◌∙◌, rules}
+use Rattle.std.proofs.Common.{[], ◌∷◌, sym, ap, rules}
 use Rattle.items.specs.Lines.{behind}
 use Rattle.items.proofs.Fronts.{front₁}
 use Rattle.number_text.proofs.sums.after_star.Goals as goal

@@ -1,4 +1,4 @@
-use Rattle.std.proofs.Common.{arith, rules}
+use Rattle.std.proofs.Common.{arith}
 use Rattle.std.proofs.lemmas.List.{length-set}
 use Rattle.numbers.specs.Model.{numbers_of}
 use Rattle.number_text.proofs.Joining.{no_term, last_term, more_terms}

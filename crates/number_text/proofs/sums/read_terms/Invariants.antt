@@ -1,4 +1,4 @@
-use Rattle.std.proofs.Common.{◌≡◌, ◌-◌, ◌≤◌, length, take}
+use Rattle.std.proofs.Common.{◌≡◌, ◌-◌, length, take}
 use Rattle.numbers.specs.Model.{numbers_of}
 use Rattle.number_text.specs.Sums.{terms_read}
 use Rattle.number_text.proofs.Joining.{joined}

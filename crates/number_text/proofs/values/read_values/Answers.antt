@@ -1,4 +1,4 @@
-use Rattle.std.proofs.Common.{◌≡◌, ◌∙◌, arith, rules}
+use Rattle.std.proofs.Common.{◌∙◌, arith, rules}
 use Rattle.numbers.specs.Model.{numbers_of}
 use Rattle.number_text.proofs.Codes.{no_bounds, all_read, code_fits, room, no_value, one_more_value, passed, nothing_after, something_after}
 use Rattle.number_text.proofs.values.read_values.Goals as goal
@@ -29,6 +29,6 @@ pub returns-in-empty : goal.returns-in-empty
 returns-in-empty c =
     nothing_after c.loop-number.code c.loop-number.rest.now (search rules) ∙ all_read (numbers_of c.args.numbers.now).variables c.loop-number.number c.loop-number.code c.loop-number.rest.now _ c.loop-number.invariant.1 c.loop-number.invariant.0 (omega arith)
 
-pub returns-in_default-default : goal.returns-in_default-default
-returns-in_default-default c =
+pub returns-in_default-rest : goal.returns-in_default-rest
+returns-in_default-rest c =
     something_after c.loop-number.code c.loop-number.rest.now (search rules) ∙ all_read (numbers_of c.args.numbers.now).variables c.loop-number.number c.loop-number.code c.loop-number.rest.now _ c.loop-number.invariant.1 c.loop-number.invariant.0 (omega arith)
