@@ -1,5 +1,5 @@
 -- One code more.
-use Rattle.std.proofs.Common.{◌≡◌, ℕ, suc, ◌+◌, ◌*◌, ◌≤◌, sym, ap, ◌∙◌, ap₂, add-mul, add-one, arith}
+use Rattle.std.proofs.Common.{◌≡◌, ℕ, ◌+◌, sym, ap, ◌∙◌, ap₂, add-one}
 use Rattle.theory.specs.Meaning.{Meaning, answer}
 use Rattle.theory.specs.declared.next.Next.TheVariants.{Code}
 use Rattle.numbers_bench.specs.Counts.{as_one, facts_from, facts_in}

@@ -86,8 +86,7 @@ fn subject() -> Numbers {
 }
 
 /// At how many pairs of codes an atom of the benchmark's theory holds.
-#[unsafe(no_mangle)]
-pub extern "C" fn numbers_bench_count(atom: u8) -> u64
+pub fn numbers_bench_count(atom: u8) -> u64
     ensures { (t : Numbers) × (result ≡ facts_in (numbers_meaning (numbers_of t)) atom (numbers_meaning (numbers_of t)).codes) }
 {
     let theory = subject();
