@@ -1,6 +1,5 @@
 -- Bits printed one after another, and the code that they tell.
-use Rattle.std.proofs.Common.{◌≡◌, ℕ, zero, suc, ◌+◌, ◌*◌, ◌/◌, ◌%◌, ◌^◌, ◌<◌, ◌≤◌, List, [], ◌∷◌, ◌++◌, map, length, ℤ, pos, nat_abs, Some, None, sym, refl, ap, ◌∙◌, subst, ap₂, mod-eq_of_lt, zero-add, div-one, add-one, arith, w32, to_z}
-use lib.Signed.{mag}
+use Rattle.std.proofs.Common.{◌≡◌, ℕ, zero, suc, ◌+◌, ◌*◌, ◌/◌, ◌%◌, ◌^◌, ◌≤◌, List, [], ◌∷◌, ◌++◌, map, length, ℤ, pos, Some, sym, ap, ◌∙◌, subst, mod-eq_of_lt, zero-add, div-one, add-one, arith, w32, to_z}
 use Rattle.std.proofs.lemmas.Nat.{mod_below, mod-pow-add, shr-shr}
 use Rattle.std.proofs.lemmas.List.FromFn.{map-range_with_len_more}
 use Rattle.std.proofs.lemmas.Int.{to_z_pos}

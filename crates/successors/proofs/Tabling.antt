@@ -1,9 +1,11 @@
 -- The table of states that are done.
-use Rattle.std.proofs.Common.{◌≡◌, ℕ, zero, suc, ◌<◌, ◌≤◌, Bool, true, false, cond, ◌⊎◌, List, [], ◌∷◌, length, get_or, set, replicate, Some, None, Decides, Option, sym, refl, ap, ◌∙◌, subst, inl, inr, arith}
+use Rattle.std.proofs.Common.{◌≡◌, ℕ, zero, suc, ◌<◌, ◌≤◌, Bool, true, false, ◌&&◌, ◌⊎◌, List, [], ◌∷◌, length, get_or, set, replicate, Some, None, Option, sym, refl, ap, ◌∙◌, subst, inl, inr, arith}
 use mathlib.Core.Path.{subst⁻¹}
 use native.Mathlib.Decide.{ℕ_discrete}
 use Rattle.std.proofs.lemmas.List.{length-set, get_or-set_same, get_or-set_other, get_or-replicate, length-replicate, get_or_default}
-use Rattle.std.proofs.lemmas.Bool.{false≢true}
+use Rattle.std.proofs.Math.Bool.{beq}
+use Rattle.std.proofs.Math.Dec.{eqb}
+use Rattle.std.proofs.lemmas.Bool.{false≢true, and_parts, eqb-true}
 use Rattle.ltlf.specs.Contents.{Contents}
 use Rattle.intern.specs.declared.cell.Cell.{Cell}
 use Rattle.tableau.specs.Labels.{Label}
@@ -57,10 +59,20 @@ module _ (w : Moment) (b : Contents) where
 same_state : (s : State) (S N : ℕ) → s.used ≡ true → s.members ≡ S → s.next ≡ N → s ≡ state S N
 same_state s S N u m n = λ i. record { used = u i; members = m i; next = n i }
 
+beq_true : (b : Bool) → beq b true ≡ true → b ≡ true
+beq_true true h = refl
+beq_true false h = h
+
 -- what the test for equality says
-pub seen_stands : (ts : List State) (j S N : ℕ) (e : State) (F : Type 0) (r : Bool) → j < length ts
-    → cond {A = Type 0} r (Decides true ((get_or ts j e).used ≡ true) × (Decides true ((get_or ts j e).members ≡ S) × Decides true ((get_or ts j e).next ≡ N))) F
+pub seen_stands : (ts : List State) (j S N : ℕ) (e : State) (r : Bool) → j < length ts
+    → r ≡ (beq (get_or ts j e).used true && (eqb (get_or ts j e).members S && eqb (get_or ts j e).next N))
     → r ≡ true → Stands ts (state S N)
-seen_stands ts j S N e F true lt h z =
-    (j, lt, λ d. get_or_default ts j d e lt ∙ same_state (get_or ts j e) S N (h.0.0 refl) (h.1.0.0 refl) (h.1.1.0 refl))
-seen_stands ts j S N e F false lt h z = absurd (false≢true z)
+seen_stands ts j S N e r lt h z =
+    let one = and_parts _ _ (sym h ∙ z) in
+    let two = and_parts _ _ one.1 in
+    (
+      j,
+      lt,
+      λ d. get_or_default ts j d e lt ∙
+          same_state (get_or ts j e) S N (beq_true _ one.0) (eqb-true _ _ two.0) (eqb-true _ _ two.1),
+    )

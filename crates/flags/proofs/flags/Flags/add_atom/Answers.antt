@@ -6,10 +6,15 @@ use Rattle.flags.proofs.flags.Flags.add_atom.Goals as goal
 pub invariant_of-self : goal.invariant_of-self
 invariant_of-self c =
     let t = c.args.self.now in
-    let more = named_more t c.args.text.now c.in-Some.flag c.in-Some.ensures (omega (arith, t.spaced, t.few, c.if-self-ge-MOST_ATOMS.false)) in (
-      t.whole,
-      (t.some, (t.most, (t.indexed, (length-set t.atoms t.used c.in-Some.flag ∙ t.spaced, (omega (arith, t.few, c.if-self-ge-MOST_ATOMS.false), (more, tt)))))),
-    )
+    let more = named_more t c.args.text.now c.in-Some.flag c.in-Some.ensures (omega (arith, t.spaced, t.few, c.if-self-ge-MOST_ATOMS.false)) in record {
+      whole = t.whole;
+      some = t.some;
+      most = t.most;
+      indexed = t.indexed;
+      spaced = length-set t.atoms t.used c.in-Some.flag ∙ t.spaced;
+      few = omega (arith, t.few, c.if-self-ge-MOST_ATOMS.false);
+      named = more;
+    }
 
 pub returns : goal.returns
 returns c =

@@ -4,4 +4,12 @@ use Rattle.flags.proofs.Filling.{one_indexed}
 
 pub invariant_of-result : goal.invariant_of-result
 invariant_of-result c =
-    (refl, (omega arith, (omega arith, (one_indexed c.new.result c.args.name (replicate 11 c.new.result) c.new.ensures, (refl, (omega arith, (λ k lt. absurd (omega (arith, lt)), tt)))))))
+    record {
+      whole = refl;
+      some = omega arith;
+      most = omega arith;
+      indexed = one_indexed c.new.result c.args.name (replicate 11 c.new.result) c.new.ensures;
+      spaced = refl;
+      few = omega arith;
+      named = λ k lt. absurd (omega (arith, lt));
+    }

@@ -1,4 +1,4 @@
-use Rattle.std.proofs.Common.{◌≡◌, ℕ, ◌+◌, ◌/◌, ◌%◌, ◌^◌, ◌<◌, ◌≤◌, length, sym, ap, ◌∙◌, subst, arith, w32, to_z}
+use Rattle.std.proofs.Common.{◌≡◌, ℕ, ◌/◌, ◌%◌, ◌^◌, length, ap, ◌∙◌, arith, w32, to_z}
 use Rattle.theory.proofs.Printed.{no_code, short_buffer, printed}
 use Rattle.theory.proofs.Texts.{never_full}
 use Rattle.theory.specs.Print.{item, spaced}
