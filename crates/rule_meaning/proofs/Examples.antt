@@ -1,7 +1,6 @@
 -- Small rules at the last visit.
-use Rattle.std.proofs.Common.{◌≡◌, ℕ, suc, ◌<◌, ◌≤◌, List, [], ◌∷◌, length, sym, refl, subst, inl, inr, ⊎_elim, le_refl, arith}
+use Rattle.std.proofs.Common.{◌≡◌, [], ◌∷◌, length, sym, refl, subst, inl, ⊎_elim, le_refl, arith}
 use Rattle.std.proofs.lemmas.Bool.{false≢true}
-use Rattle.theory.specs.Meaning.{Meaning}
 use Rattle.formula_text.specs.Grammar.{atom}
 use Rattle.rule_meaning.specs.Written.{WrittenHolds}
 use Rattle.rule_meaning.specs.Examples.{LastVisitTried, OneVisitSaid}

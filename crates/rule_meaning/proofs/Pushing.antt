@@ -1,6 +1,6 @@
 -- A rule with its negations pushed down holds where the rule does, and pushed down under a negation where it does not.
-use Rattle.std.proofs.Common.{◌≡◌, ℕ, zero, suc, ◌<◌, Bool, true, false, cond, not, ◌⊎◌, ◌↔◌, List, [], ◌∷◌, length, get_or, sym, refl, ap, ◌∙◌, inl, inr}
-use Rattle.std.proofs.lemmas.Bool.{cases_Bool, both_ways, true≢false, false≢true}
+use Rattle.std.proofs.Common.{◌≡◌, ℕ, zero, suc, true, false, List, [], ◌∷◌, length, get_or, refl, ap, ◌∙◌, inl, inr}
+use Rattle.std.proofs.lemmas.Bool.{cases_Bool, both_ways, false≢true}
 use Rattle.theory.specs.Meaning.{Meaning}
 use Rattle.ltlf.specs.Contents.{Contents, Proper}
 use Rattle.ltlf.specs.declared.node.Node.{Node}
@@ -10,12 +10,9 @@ use Rattle.judge.specs.Formulas as judge
 use Rattle.judge.specs.Histories.{visit, after}
 use Rattle.judge.specs.Holding.{Holds}
 use Rattle.judge.proofs.Trees.{formula_of}
-use Rattle.formula_text.specs.Operators.{constant_node, atom_node, one_node, two_node}
 use Rattle.formula_text.specs.Grammar.{Written, constant, atom, negation, single, finally, globally, pair}
 use Rattle.formula_text.specs.Trees.{Tree, value, literal, over, both, pushed, At, Stands}
-use Rattle.formula_text.specs.declared.operator.One.{One}
 use Rattle.formula_text.specs.declared.operator.One.TheVariants as one
-use Rattle.formula_text.specs.declared.operator.Two.{Two}
 use Rattle.formula_text.specs.declared.operator.Two.TheVariants as two
 use Rattle.rule_meaning.specs.Written.{WrittenHolds}
 use Rattle.rule_meaning.proofs.Moments as moments

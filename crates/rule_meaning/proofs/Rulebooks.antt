@@ -1,15 +1,12 @@
 -- Lines of rules, read one after the other, and the book that they leave.
-use Rattle.std.proofs.Common.{◌≡◌, ℕ, zero, suc, ◌+◌, ◌<◌, ◌≤◌, Bool, true, false, cond, not, ◌&&◌, eqb, ltb, ◌⊎◌, ◌↔◌, List, [], ◌∷◌, ◌++◌, map, length, Some, None, Ok, Err, Option, Result, sym, refl, ap, ◌∙◌, subst, inl, inr, ⊎_elim, append-nil, arith}
-use Rattle.std.proofs.lemmas.Bool.{cond-true, cond-false, cond_both, cases_Bool, eqb-true, and_from, and_right, not_from_true, not_from_false, false≢true}
+use Rattle.std.proofs.Common.{◌≡◌, ℕ, ◌+◌, ◌<◌, ◌≤◌, true, false, not, eqb, ltb, ◌⊎◌, List, [], ◌∷◌, ◌++◌, map, length, Some, None, Ok, Err, Option, Result, sym, refl, ap, ◌∙◌, subst, inl, inr, ⊎_elim, append-nil, arith}
+use Rattle.std.proofs.lemmas.Bool.{cond-true, cond-false, cases_Bool, eqb-true, and_from, and_right, not_from_true, not_from_false, false≢true}
 use Rattle.refusal.specs.declared.Refusal.{Refusal}
 use Rattle.refusal.specs.declared.Refusal.TheVariants.{Unknown}
 use Rattle.theory.specs.Meaning.{Meaning}
 use Rattle.ltlf.specs.Contents.{Contents, Proper, among, rule_answer, rule_leaves}
 use Rattle.judge.specs.Formulas.{Among}
 use Rattle.judge.specs.Holding.{Meets}
-use Rattle.judge.specs.Judging.{judge_check, Judged}
-use Rattle.judge.specs.declared.judgement.Judgement.{Judgement}
-use Rattle.judge.specs.declared.judgement.Judgement.TheVariants.{Met}
 use Rattle.judge.proofs.Checking.{some_visit}
 use Rattle.items.specs.Lines.{behind}
 use Rattle.items.specs.Trailers.{and_text}
@@ -19,10 +16,10 @@ use Rattle.formula_text.specs.Trees.{Tree, pushed, Stands}
 use Rattle.formula_text.proofs.Accepting.{read_is_written}
 use Rattle.formula_text.proofs.Standing.{built_stands, stands_more}
 use Rattle.sheet_text.specs.Lines.{go_on, lines_read}
-use Rattle.sheet_text.specs.Rules.{unless_refused, rule_named, named_alone, as_rule, rule_text, rule_read}
+use Rattle.sheet_text.specs.Rules.{unless_refused, as_rule, rule_text, rule_read}
 use Rattle.rule_meaning.specs.Written.{WrittenHolds, AllHold}
 use Rattle.rule_meaning.specs.Theorems.{rule_line, AllReadable, Rulebook}
-use Rattle.rule_meaning.proofs.Properness.{built_proper, rule_proper}
+use Rattle.rule_meaning.proofs.Properness.{rule_proper}
 use Rattle.rule_meaning.proofs.Saying.{stands_says, read_says}
 
 never_some : {A P : Type 0} (a : A) → ◌≡◌ {A = Option A} None (Some a) → P

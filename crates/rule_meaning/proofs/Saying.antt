@@ -1,14 +1,12 @@
 -- The formula that is put for a rule, or read from a text, says what the rule says.
-use Rattle.std.proofs.Common.{◌≡◌, ℕ, ◌<◌, false, ◌↔◌, List, length, sym, ap, subst}
-use Rattle.theory.specs.Meaning.{Meaning}
+use Rattle.std.proofs.Common.{◌≡◌, ℕ, false, sym, ap, subst}
 use Rattle.ltlf.specs.Contents.{Contents, Proper}
 use Rattle.judge.specs.Formulas.{Formula, formula}
 use Rattle.judge.specs.Holding.{Holds}
-use Rattle.formula_text.specs.Grammar.{Written, made, built}
+use Rattle.formula_text.specs.Grammar.{Written}
 use Rattle.formula_text.specs.Trees.{pushed, Stands}
 use Rattle.formula_text.proofs.Accepting.{read_is_written}
 use Rattle.formula_text.proofs.Standing.{built_stands}
-use Rattle.rule_meaning.specs.Written.{WrittenHolds}
 use Rattle.rule_meaning.specs.Theorems.{Says, PutSaysWritten, ReadSaysWritten}
 use Rattle.rule_meaning.proofs.Pushing.{tree_formula, stands_formula, right}
 use Rattle.rule_meaning.proofs.Properness.{held, built_proper}

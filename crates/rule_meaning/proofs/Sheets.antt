@@ -1,5 +1,5 @@
 -- The rules of an accepted sheet.
-use Rattle.std.proofs.Common.{◌≡◌, ℕ, ◌-◌, ◌^◌, List, [], ◌∷◌, map, length, take, drop, Some, None, Ok, Err, Option, Result, sym, refl, ap, ◌∙◌, subst, arith}
+use Rattle.std.proofs.Common.{◌≡◌, ℕ, ◌-◌, ◌^◌, List, [], ◌∷◌, map, length, take, drop, Some, None, Ok, Err, Option, Result, refl, arith}
 use Rattle.std.proofs.lemmas.Bool.{cond_both}
 use Rattle.refusal.specs.declared.SheetRefusal.{SheetRefusal}
 use Rattle.refusal.specs.declared.SheetRefusal.TheVariants.{Bytes, Trailer, Opening, Rule, Note}
@@ -17,7 +17,7 @@ use Rattle.sheet_text.specs.Opening.{opening_read}
 use Rattle.sheet_text.specs.NumberOpening.{number_opening_read}
 use Rattle.sheet_text.specs.Rules.{rules_read}
 use Rattle.sheet_text.specs.Notes.{Noted, note_read, number_note_read, notes_read}
-use Rattle.sheet_text.specs.Sheets.{After, refused, after_notes, after_rules, after_opening, counted, counted_numbers, passes_as_text, by_trailer, heading_of, by_heading, sheet_read}
+use Rattle.sheet_text.specs.Sheets.{After, refused, after_notes, after_rules, after_opening, counted, counted_numbers, passes_as_text, by_trailer, heading_of, by_heading}
 use Rattle.sheet_text.specs.declared.heading.Heading.{Heading}
 use Rattle.sheet_text.specs.declared.heading.Heading.TheVariants.{Flags, Numbers}
 use Rattle.sheet_text.specs.declared.heading.Sheet.{Sheet}

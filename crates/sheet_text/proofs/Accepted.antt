@@ -1,5 +1,5 @@
 -- A number sheet whose sections are all right.
-use Rattle.std.proofs.Common.{◌≡◌, ℕ, ◌-◌, List, take, drop, Ok, Err, Result, sym, refl, ap, ◌∙◌}
+use Rattle.std.proofs.Common.{◌≡◌, ℕ, ◌-◌, List, take, drop, Ok, Result, ap, ◌∙◌}
 use Rattle.flags.specs.Model.{FlagsModel}
 use Rattle.flags.specs.Filling.{fresh_flags}
 use Rattle.numbers.specs.Model.{NumbersModel}

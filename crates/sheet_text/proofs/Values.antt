@@ -1,5 +1,5 @@
 -- The values of a note, one flag after the other.
-use Rattle.std.proofs.Common.{◌≡◌, ℕ, zero, suc, ◌+◌, ◌-◌, ◌*◌, ◌^◌, ◌<◌, ◌≤◌, List, [], ◌∷◌, Some, None, Option, sym, refl, ap, ◌∙◌, pow-suc, arith}
+use Rattle.std.proofs.Common.{◌≡◌, ℕ, zero, suc, ◌+◌, ◌-◌, ◌*◌, ◌^◌, ◌<◌, ◌≤◌, List, [], ◌∷◌, Some, None, sym, ap, ◌∙◌, pow-suc, arith}
 use Rattle.items.specs.Lines.{behind}
 use Rattle.items.specs.Numbers.{Reading, natural_read}
 use Rattle.items.specs.Trailers.{and_text, and_read}

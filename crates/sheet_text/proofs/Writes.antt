@@ -1,5 +1,5 @@
 -- A turn of the loop that writes the codes of notes.
-use Rattle.std.proofs.Common.{◌≡◌, ℕ, suc, ◌+◌, ◌-◌, ◌<◌, ◌≤◌, List, [], ◌∷◌, ◌++◌, length, get_or, take, drop, set, Option, sym, refl, ap, ◌∙◌, arith}
+use Rattle.std.proofs.Common.{◌≡◌, ℕ, ◌+◌, ◌<◌, ◌≤◌, List, [], ◌∷◌, ◌++◌, length, take, drop, set, Option, sym, refl, ap, ◌∙◌, arith}
 use Rattle.std.proofs.lemmas.List.{append_assoc, append-nil, nil_from_length, take-append-drop, take_all, drop_all, take_more_set, drop-set-lt, drop_more}
 use Rattle.items.specs.Lines.{line_length, lines_of}
 use Rattle.items.proofs.Cuts.{lines_cut}

@@ -1,7 +1,7 @@
 -- The lines of notes.
-use Rattle.std.specs.Prelude.{ℕ, zero, suc, ◌+◌, ◌*◌, ◌^◌, ◌<◌, min, Bool, true, false, cond, List, [], ◌∷◌, map, length, Some, None, Ok, Err, Option, Result, nat_lt}
+use Rattle.std.specs.Prelude.{ℕ, zero, suc, ◌+◌, ◌*◌, ◌^◌, ◌<◌, min, cond, List, [], ◌∷◌, length, Some, None, Ok, Err, Option, Result, nat_lt}
 use Rattle.items.specs.Lines.{behind, lines_of}
-use Rattle.items.specs.Numbers.{Reading, natural_read}
+use Rattle.items.specs.Numbers.{natural_read}
 use Rattle.items.specs.Trailers.{and_text, and_read, whole}
 use Rattle.flags.specs.Model.{FlagsModel}
 use Rattle.numbers.specs.Model.{NumbersModel}

@@ -1,4 +1,4 @@
-use Rattle.std.proofs.Common.{arith, rules}
+use Rattle.std.proofs.Common.{arith}
 use Rattle.sheet_text.proofs.Values.{no_bit, no_space, no_others, all_values, doubled}
 use Rattle.sheet_text.proofs.notes.+values.Goals as goal
 

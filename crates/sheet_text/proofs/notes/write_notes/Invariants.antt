@@ -1,4 +1,4 @@
-use Rattle.std.proofs.Common.{◌≡◌, ◌-◌, ◌≤◌, ◌++◌, length, take, drop}
+use Rattle.std.proofs.Common.{◌≡◌, ◌≤◌, ◌++◌, length, take, drop}
 use Rattle.items.specs.Lines.{lines_of}
 use Rattle.flags.specs.Model.{flags_of}
 use Rattle.numbers.specs.Model.{numbers_of}

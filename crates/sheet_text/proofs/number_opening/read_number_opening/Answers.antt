@@ -1,4 +1,4 @@
-use Rattle.std.proofs.Common.{◌≡◌, length, ap, ◌∙◌, arith, rules}
+use Rattle.std.proofs.Common.{length, ap, ◌∙◌, rules}
 use Rattle.numbers.specs.Model.{numbers_of}
 use Rattle.sheet_text.specs.Lines.{section}
 use Rattle.sheet_text.specs.Opening.{whole_opening}

@@ -1,4 +1,4 @@
-use Rattle.std.proofs.Common.{arith, rules}
+use Rattle.std.proofs.Common.{arith}
 use Rattle.items.proofs.Bounds.{trailer_bounds}
 use Rattle.sheet_text.proofs.Bytes.{some_byte}
 use Rattle.sheet_text.proofs.sheet.read_text.Goals as goal
