@@ -1,5 +1,5 @@
 -- A question of a draw: by which number it is refused, where the visit list holds the kept visits.
-use Rattle.std.proofs.Common.{◌≡◌, ℕ, ◌≤◌, Bool, true, false, cond, not, ◌&&◌, eqb, ltb, List, length, Some, None, Ok, Err, Option, Result, sym, refl, ap, ◌∙◌}
+use Rattle.std.proofs.Common.{◌≡◌, ℕ, ◌≤◌, Bool, true, false, cond, not, ltb, List, length, Some, None, Ok, Err, Option, Result, sym, refl, ap, ◌∙◌}
 use Rattle.std.proofs.lemmas.Bool.{and_parts, le-ltb, eqb-true}
 use Rattle.intern.specs.declared.cell.Cell.{Cell}
 use Rattle.refusal.specs.declared.Refusal.{Refusal}
@@ -14,7 +14,7 @@ use Rattle.search.specs.declared.outcome.Outcome.{Outcome}
 use Rattle.search.specs.Outcomes.{outcome_of}
 use Rattle.record.specs.Calls.{RecordModel}
 use Rattle.household.specs.Calls.{kept_visits, counts_agree, question_check, question_of, question_answer}
-use Rattle.household.specs.Questions.{Asked, refused_by, Means, Answers}
+use Rattle.household.specs.Questions.{refused_by, Means, Answers}
 use Rattle.household.proofs.Checks.{pass_by, pass_not, number_if, refused_is, accepted_is}
 
 number_cond : (t : Bool) (e : Refusal) (x : Result (Unit {0}) Refusal) → number_if (cond t (Err e) x) ≡ cond t (Some (number_of e)) (number_if x)

@@ -1,9 +1,9 @@
 -- What record, book, theory and visit list are checked for, beside what the judge and the search check.
-use Rattle.std.proofs.Common.{◌≡◌, ℕ, ◌≤◌, Bool, true, false, cond, not, ◌&&◌, eqb, ltb, List, length, take, Some, None, Ok, Err, Option, Result, sym, refl, ap, ◌∙◌, arith}
+use Rattle.std.proofs.Common.{◌≡◌, ℕ, ◌≤◌, Bool, true, false, cond, not, eqb, ltb, List, length, Some, None, Ok, Err, Option, Result, sym, refl, ap, ◌∙◌, arith}
 use Rattle.std.proofs.lemmas.List.{length-take-le}
 use Rattle.std.proofs.lemmas.Bool.{and_parts, le-ltb, ltb-true, not-false}
 use Rattle.refusal.specs.declared.Refusal.{Refusal}
-use Rattle.refusal.specs.declared.Refusal.TheVariants.{NothingKept, CountsDiffer, BadVisitList, BadBuffer}
+use Rattle.refusal.specs.declared.Refusal.TheVariants.{CountsDiffer, BadVisitList, BadBuffer}
 use Rattle.refusal.specs.Numbers.{number_of}
 use Rattle.theory.specs.Meaning.{Meaning, unless_refused}
 use Rattle.ltlf.specs.Contents.{Contents, Proper}
@@ -12,7 +12,6 @@ use Rattle.judge.specs.Judging.{all_codes, same_counts, judge_check, Judged}
 use Rattle.judge.proofs.Tests.{pass_at}
 use Rattle.tableau.specs.Continuations.{WellPosed}
 use Rattle.tableau.specs.Search.{answer}
-use Rattle.search.specs.declared.outcome.Outcome.{Outcome}
 use Rattle.search.specs.Outcomes.{outcome_of}
 use Rattle.search.specs.Calls.{search_check, search_answer}
 use Rattle.record.specs.Calls.{RecordModel}

@@ -1,5 +1,5 @@
 -- An observer that hears some events, and then some more.
-use Rattle.std.proofs.Common.{◌≡◌, List, [], ◌∷◌, ◌++◌, sym, refl, subst}
+use Rattle.std.proofs.Common.{List, [], ◌∷◌, ◌++◌, sym, refl, subst}
 use Rattle.household.specs.Law.{Event, Heard}
 
 module _ {S : Type 0} (hears : S → Event → S → Type 0) where

@@ -6,7 +6,6 @@ use Rattle.refusal.specs.declared.Refusal.TheVariants.{NoSuchCode, ListFull}
 use Rattle.record.specs.Calls.{SyncModel}
 use Rattle.refusal.specs.Numbers.{number_of}
 use Rattle.record.specs.Calls.{note_check, note_answer, note_leaves, note_writes, if_accepted}
-use Rattle.household.specs.Questions.{Asked}
 use Rattle.household.specs.Law.{Event, Heard, reply_of, Agree, Told}
 use Rattle.household.proofs.Hears.{heard_push}
 use Rattle.household.specs.Law as law

@@ -1,24 +1,23 @@
 -- What a question answers, said of histories and counted positions.
-use Rattle.std.proofs.Common.{◌≡◌, ℕ, ◌<◌, ◌≤◌, Bool, true, false, cond, not, ◌&&◌, eqb, ltb, ◌↔◌, List, ◌++◌, length, take, drop, Ok, Err, Result, sym, refl, ap, ◌∙◌, subst, arith}
+use Rattle.std.proofs.Common.{◌≡◌, ℕ, List, length, take, drop, Ok, Err, Result, sym, refl, ap, ◌∙◌, subst, arith}
 use Rattle.std.proofs.lemmas.List.{take_at}
 use Rattle.intern.specs.declared.cell.Cell.{Cell}
 use Rattle.refusal.specs.declared.Refusal.{Refusal}
 use Rattle.theory.specs.Meaning.{Meaning}
 use Rattle.ltlf.specs.Contents.{Contents, Proper}
 use Rattle.tableau.specs.Positions.{Position, Question, Rows}
-use Rattle.tableau.specs.Continuations.{Continuation, WellPosed}
+use Rattle.tableau.specs.Continuations.{WellPosed}
 use Rattle.tableau.specs.Search.{Answer, answer}
 use Rattle.tableau.specs.Search as search
 use Rattle.tableau.specs.Theorems.{Says}
 use Rattle.tableau.proofs.Searched.{counted_finite, answer_right}
 use Rattle.search.specs.declared.row.Row.{Row}
 use Rattle.search.specs.declared.outcome.Outcome.{Outcome}
-use Rattle.search.specs.declared.outcome.Outcome.TheVariants.{Can, Cannot, Short}
-use Rattle.search.specs.Outcomes.{outcome_of, positions, RowsLeft, HistoryLeft, ShortestContinuation}
+use Rattle.search.specs.Outcomes.{outcome_of, RowsLeft, HistoryLeft, ShortestContinuation}
 use Rattle.search.specs.Calls.{RowsAfter, HistoryAfter}
 use Rattle.search.proofs.Answering.{length_positions}
 use Rattle.record.specs.Calls.{RecordModel}
-use Rattle.household.specs.Questions.{Verdict, can, cannot, short, verdict, row_count, Shows, HoldsCounted, ComesOut, Means}
+use Rattle.household.specs.Questions.{Verdict, can, cannot, short, ComesOut, Means}
 use Rattle.household.specs.Calls.{question_check, question_of, question_answer}
 use Rattle.household.proofs.Checks.{accepted_is, well_posed}
 

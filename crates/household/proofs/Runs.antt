@@ -6,7 +6,7 @@ use Rattle.judge.specs.Judging.{all_codes}
 use Rattle.record.specs.Calls.{RecordModel, opened}
 use Rattle.household.specs.Questions.{Asked}
 use Rattle.household.proofs.Sound.{kept_sound}
-use Rattle.household.specs.Law.{Event, Heard, Agree, Told, HouseholdLaw}
+use Rattle.household.specs.Law.{Event, Heard, Agree, HouseholdLaw}
 use Rattle.household.proofs.Hears.{heard_append}
 use Rattle.household.specs.Plain.{Drawn, Seen, kept_then, seen_of, kept_after, run}
 use Rattle.household.specs.Runs.{Stepped}

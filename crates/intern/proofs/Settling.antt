@@ -6,7 +6,7 @@ use Rattle.intern.specs.declared.cell.Cell.{Cell}
 use Rattle.intern.specs.declared.descent.End.{End}
 use Rattle.intern.specs.declared.descent.End.TheVariants as ends
 use Rattle.intern.specs.declared.Slot.{Slot}
-use Rattle.intern.specs.declared.Slot.TheVariants.{Found, Added, Full, Broken}
+use Rattle.intern.specs.declared.Slot.TheVariants.{Found, Added, Full}
 use Rattle.intern.specs.Entry.{room, new_slot, hung, with_first, with_hung, slot_at, cells_at, slot_answer, cells_after}
 use Rattle.intern.specs.Links.{leaf, linked}
 use Rattle.intern.specs.Walk.{walk, reached, found_at}

@@ -1,9 +1,9 @@
 -- What a slot says of the record's place.
-use Rattle.std.proofs.Common.{◌≡◌, ℕ, suc, ◌<◌, ◌≤◌, Bool, true, false, cond, ◌⊎◌, List, [], ◌∷◌, length, Some, None, Option, sym, refl, ◌∙◌, inl, inr, arith}
+use Rattle.std.proofs.Common.{◌≡◌, ℕ, suc, ◌<◌, Bool, true, false, cond, List, [], ◌∷◌, length, Some, None, Option, sym, refl, ◌∙◌, inl, inr, arith}
 use Rattle.std.proofs.lemmas.Bool.{cond-true, cond-false, cases_Bool}
 use Rattle.intern.specs.declared.Slot.{Slot}
 use Rattle.intern.specs.declared.Slot.TheVariants.{Found, Added, Full, Broken}
-use Rattle.intern.specs.Entry.{room, new_slot}
+use Rattle.intern.specs.Entry.{room}
 use Rattle.intern.specs.Index.{further, place}
 use Rattle.intern.specs.Settled.{slot_of}
 

@@ -1,8 +1,8 @@
 -- Steps of the scans for line ends.
-use Rattle.std.proofs.Common.{◌≡◌, ℕ, suc, ◌+◌, ◌-◌, ◌<◌, ◌≤◌, Bool, true, false, cond, eqb, List, [], ◌∷◌, length, get_or, take, drop, sym, refl, ap, ◌∙◌, arith}
+use Rattle.std.proofs.Common.{◌≡◌, ℕ, suc, ◌+◌, ◌-◌, ◌<◌, ◌≤◌, cond, eqb, List, length, get_or, take, drop, sym, ap, ◌∙◌, arith}
 use Rattle.std.proofs.lemmas.List.{at_drop_more, at_drop_all, length-take-le, get_or-take}
 use Rattle.std.proofs.lemmas.Bool.{cond-true, cond-false, eq-eqb, ne_eqb}
-use Rattle.items.specs.Lines.{line_length, start_from, last_start}
+use Rattle.items.specs.Lines.{line_length, start_from}
 
 module _ (text : List ℕ) (i : ℕ) (so : i + line_length (drop i text) ≡ line_length text) where
   pub line_here : i < length text → get_or text i 0 ≡ 10 → i ≡ line_length text

@@ -1,5 +1,5 @@
 -- The trailer of a sheet.
-use Rattle.std.specs.Prelude.{ℕ, ◌-◌, Bool, true, false, cond, ◌&&◌, List, [], ◌∷◌, length, take, drop, Some, None, Option, ◌==◌, nat_le, slice_index}
+use Rattle.std.specs.Prelude.{ℕ, ◌-◌, Bool, cond, ◌&&◌, List, [], ◌∷◌, length, take, drop, Some, None, Option, ◌==◌, nat_le, slice_index}
 use Rattle.items.specs.Numbers.{Reading, natural_read}
 use Rattle.items.specs.Lines.{behind, last_start}
 use Rattle.items.specs.declared.trailers.Trailer.{Trailer}

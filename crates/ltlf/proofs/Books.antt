@@ -1,10 +1,9 @@
 -- Every book is proper.
-use Rattle.std.proofs.Common.{◌≡◌, ℕ, ◌<◌, ◌≤◌, true, length, get_or, take, sym, ap, ◌∙◌, subst, arith}
+use Rattle.std.proofs.Common.{◌≡◌, ℕ, ◌<◌, ◌≤◌, length, get_or, take, sym, ◌∙◌, arith}
 use Rattle.std.proofs.lemmas.List.{length-take-le, get_or-take}
 use Rattle.intern.specs.Index.{items}
 use Rattle.intern.proofs.Places.{length_items}
-use Rattle.ltlf.specs.Nodes.{known}
-use Rattle.ltlf.specs.Contents.{Contents, draft_contents, book_contents, Proper}
+use Rattle.ltlf.specs.Contents.{draft_contents, book_contents, Proper}
 use Rattle.ltlf.specs.declared.book.Book.{Book}
 use Rattle.ltlf.specs.declared.draft.Draft.{Draft}
 

@@ -1,5 +1,5 @@
 -- The first entries of an array.
-use Rattle.std.proofs.Common.{◌≡◌, ℕ, ◌<◌, ◌≤◌, true, false, cond, ltb, List, length, get_or, take, Ok, Err, Result, sym, ap, ◌∙◌, arith}
+use Rattle.std.proofs.Common.{◌≡◌, ℕ, ◌<◌, ◌≤◌, true, false, cond, ltb, List, length, get_or, take, Ok, Err, sym, ap, ◌∙◌, arith}
 use Rattle.intern.specs.Index.{items}
 use Rattle.intern.specs.declared.cell.Cell.{Cell}
 use Rattle.intern.proofs.Places.{length_items, items_at}

@@ -1,5 +1,5 @@
 -- Putting a formula, by the slot that it gets.
-use Rattle.std.proofs.Common.{◌≡◌, ℕ, ◌+◌, ◌^◌, ◌<◌, ◌≤◌, Bool, true, false, cond, ◌&&◌, ltb, ◌⊎◌, List, [], ◌∷◌, ◌++◌, length, get_or, Some, None, Ok, Err, Option, sym, refl, ap, ◌∙◌, subst, inl, inr, arith}
+use Rattle.std.proofs.Common.{◌≡◌, ℕ, ◌+◌, ◌^◌, ◌<◌, ◌≤◌, true, false, cond, ltb, List, [], ◌∷◌, length, get_or, Some, None, Ok, Err, Option, sym, ap, ◌∙◌, inl, inr, arith}
 use Rattle.std.proofs.lemmas.List.{get_or_append_left, get_or_push}
 use Rattle.std.proofs.lemmas.Bool.{cond-true, cond-false, and_parts, and_cases, ltb-true, ltb-false, lt-ltb, le-ltb, cases_eq}
 use Rattle.refusal.specs.declared.Refusal.TheVariants.{Unknown, TooManyFormulas}
@@ -7,7 +7,7 @@ use Rattle.intern.specs.declared.cell.Cell.{Cell}
 use Rattle.intern.specs.declared.Slot.TheVariants.{Found, Added, Full, Broken}
 use Rattle.intern.specs.Entry.{room}
 use Rattle.intern.specs.Index.{items, place}
-use Rattle.intern.specs.Settled.{slot_of, Settled}
+use Rattle.intern.specs.Settled.{Settled}
 use Rattle.intern.proofs.Places.{length_items}
 use Rattle.intern.proofs.Slots.{slot_found, slot_added, slot_full, slot_broken, place_below}
 use Rattle.ltlf.specs.Nodes.{known, same, node_turn}

@@ -1,5 +1,5 @@
 -- What a household's record and a sync of it hold, and what each call answers and leaves.
-use Rattle.std.specs.Prelude.{ℕ, ◌+◌, ◌-◌, Bool, cond, ◌||◌, List, length, Ok, Err, Result, ◌==◌, nat_le, slice_set}
+use Rattle.std.specs.Prelude.{ℕ, ◌+◌, ◌-◌, cond, ◌||◌, List, length, Ok, Err, Result, ◌==◌, nat_le, slice_set}
 use Rattle.refusal.specs.declared.Refusal.{Refusal}
 use Rattle.refusal.specs.declared.Refusal.TheVariants.{NoSuchCode, ListFull, NothingKept}
 use Rattle.ltlf.specs.Contents.{Contents}

@@ -1,5 +1,5 @@
 -- A line written piece by piece.
-use Rattle.std.proofs.Common.{◌≡◌, ℕ, ◌+◌, ◌^◌, ◌<◌, ◌≤◌, List, [], ◌∷◌, ◌++◌, length, take, drop, Ok, decimal, Result, sym, refl, ap, ◌∙◌, ap₂, zero-add, arith, length-append}
+use Rattle.std.proofs.Common.{◌≡◌, ℕ, ◌+◌, ◌^◌, ◌<◌, ◌≤◌, List, ◌++◌, length, drop, Ok, decimal, sym, ap, ◌∙◌, ap₂, zero-add, arith, length-append}
 use Rattle.std.proofs.lemmas.Fmt.{length-decimal-le}
 use Rattle.std.proofs.lemmas.Bool.{cond-false, le-ltb}
 use Rattle.writer.specs.Puts.{put_at}

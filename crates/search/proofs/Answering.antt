@@ -1,30 +1,29 @@
 -- What a search has found is the answer to the question.
-use Rattle.std.proofs.Common.{◌≡◌, ℕ, zero, suc, ◌+◌, ◌<◌, ◌≤◌, ◌⊎◌, ◌↔◌, List, [], ◌∷◌, ◌++◌, map, length, get_or, take, drop, sym, refl, ap, ◌∙◌, subst, inl, inr, ⊎_elim, add-one, arith, length-append}
-use Rattle.std.proofs.lemmas.List.{get_or_default, get_or-map, length-map}
+use Rattle.std.proofs.Common.{◌≡◌, ℕ, zero, suc, ◌+◌, ◌<◌, ◌≤◌, List, [], ◌∷◌, ◌++◌, length, get_or, drop, sym, refl, ap, ◌∙◌, subst, inl, inr, ⊎_elim, add-one, arith, length-append}
+use Rattle.std.proofs.lemmas.List.{get_or-map, length-map}
 use Rattle.std.proofs.lemmas.Bool.{cases_lt}
 use Rattle.intern.specs.declared.cell.Cell.{Cell}
 use Rattle.intern.specs.Index.{items}
 use Rattle.intern.specs.Links.{leaf}
 use Rattle.intern.proofs.Places.{length_items}
 use Rattle.tableau.specs.Positions.{Position, Question, Starts, Step, Ends, Path, stay, go, codes_on, Reached, Distance, NoEnd, LeastEnd, Counted, In, Distinct, Rows}
-use Rattle.tableau.specs.Continuations.{Continuation, Possible, Shortest, Impossible, WellPosed, Leads}
-use Rattle.tableau.specs.Search.{Answer, can, cannot, short, answer}
+use Rattle.tableau.specs.Continuations.{Continuation, Shortest, WellPosed}
+use Rattle.tableau.specs.Search.{can, cannot, short, answer}
 use Rattle.tableau.proofs.Counting.{no_longer}
 use Rattle.tableau.proofs.Histories.{shortest_is_least, none_is_none, paths_are_histories}
 use Rattle.tableau.proofs.Layers.{counted_if_ends, counted_if_none}
 use Rattle.tableau.proofs.Searched.{counted_finite, answer_right}
 use Rattle.search.specs.declared.row.Row.{Row}
 use Rattle.search.specs.declared.layers.Found.TheVariants as found
-use Rattle.search.specs.declared.outcome.Outcome.{Outcome}
 use Rattle.search.specs.declared.outcome.Outcome.TheVariants.{Can, Cannot, Short}
 use Rattle.search.specs.Rows.{position}
 use Rattle.search.specs.Trails.{came_from, trail, Backed}
-use Rattle.search.specs.Layers.{held, Holds, Listed, Apart, LedTo, Least, Within, Unended, Traced, Exactly, RestKept, Searched}
-use Rattle.search.specs.Outcomes.{outcome_of, positions, RowsLeft, ShortestContinuation, HistoryLeft}
+use Rattle.search.specs.Layers.{held, Listed, Apart, LedTo, Least, Within, Unended, Traced, Exactly, Searched}
+use Rattle.search.specs.Outcomes.{outcome_of, positions, HistoryLeft}
 use Rattle.search.proofs.Bounds.{led_reached, reached_led}
 use Rattle.search.proofs.Entering.{row_read}
 use Rattle.search.proofs.Lists.{blank, here}
-use Rattle.search.proofs.Members.{in_at, at_in, distinct_from, same_rest}
+use Rattle.search.proofs.Members.{in_at, at_in, distinct_from}
 
 -- THE POSITIONS IN THE ROWS
 

@@ -1,12 +1,12 @@
 -- The positions of a layer lie within the bounds of the question.
-use Rattle.std.proofs.Common.{◌≡◌, ℕ, zero, suc, ◌<◌, ◌≤◌, List, length, get_or, arith}
+use Rattle.std.proofs.Common.{ℕ, zero, suc, ◌<◌, List, length, arith}
 use Rattle.intern.specs.declared.cell.Cell.{Cell}
 use Rattle.tableau.specs.Positions.{Position, Question, Starts, Step, Ends, Reached, stay}
 use Rattle.tableau.specs.Continuations.{WellPosed}
 use Rattle.tableau.proofs.Layers.{reached_by_step}
 use Rattle.tableau.proofs.Histories.{reached_bounded}
 use Rattle.search.specs.declared.row.Row.{Row}
-use Rattle.search.specs.Layers.{held, LedTo, Bounded, AllBounded}
+use Rattle.search.specs.Layers.{held, LedTo, AllBounded}
 use Rattle.search.proofs.Lists.{here}
 use Rattle.search.proofs.Levels.{Level}
 

@@ -1,22 +1,20 @@
 -- A row found among the filled cells, or entered behind them.
-use Rattle.std.proofs.Common.{◌≡◌, ℕ, zero, suc, ◌+◌, ◌-◌, ◌^◌, ◌<◌, ◌≤◌, Bool, true, false, cond, ltb, ◌⊎◌, List, [], ◌∷◌, ◌++◌, length, get_or, drop, Some, None, Option, sym, refl, ap, ◌∙◌, subst, inl, inr, arith}
+use Rattle.std.proofs.Common.{◌≡◌, ℕ, zero, suc, ◌+◌, ◌-◌, ◌^◌, ◌<◌, ◌≤◌, Bool, true, ltb, List, [], ◌∷◌, length, get_or, drop, Some, None, Option, sym, refl, ap, ◌∙◌, subst, inl, inr, arith}
 use Rattle.std.proofs.lemmas.List.{get_or_default, get_or_append_left, get_or-append_right, get_or-drop}
-use Rattle.std.proofs.lemmas.Bool.{cond-true, cond-false, cases_Bool, both_ways, and_parts, and_cases, ltb-true, ltb-false, cases_eq}
+use Rattle.std.proofs.lemmas.Bool.{cond-true, cond-false, cases_Bool, and_cases, ltb-false}
 use Rattle.intern.specs.declared.cell.Cell.{Cell}
 use Rattle.intern.specs.declared.Slot.{Slot}
 use Rattle.intern.specs.declared.Slot.TheVariants as slot
-use Rattle.intern.specs.Entry.{room}
 use Rattle.intern.specs.Index.{items, place, further}
 use Rattle.intern.specs.Links.{leaf}
 use Rattle.intern.specs.Settled.{Settled}
-use Rattle.intern.proofs.Index.{Index, to_index}
+use Rattle.intern.proofs.Index.{to_index}
 use Rattle.intern.proofs.Indexes.{items_apart}
 use Rattle.intern.proofs.Places.{length_items, items_at}
-use Rattle.intern.proofs.Slots.{slot_found, slot_added, slot_full, place_below}
-use Rattle.tableau.specs.Positions.{Position}
+use Rattle.intern.proofs.Slots.{slot_found, slot_full, place_below}
 use Rattle.search.specs.declared.row.Row.{Row}
 use Rattle.search.specs.Rows.{position, same_position, row_turn}
-use Rattle.search.specs.Layers.{held, Holds, Listed, Apart, IndexedRows, Grown, Spread}
+use Rattle.search.specs.Layers.{held, Apart, IndexedRows, Spread}
 use Rattle.search.proofs.Same.{same_is, is_same, same_back, same_through, same_turns}
 
 -- WHAT A PLACE SAYS

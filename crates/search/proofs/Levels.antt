@@ -1,14 +1,14 @@
 -- What holds where a layer begins.
-use Rattle.std.proofs.Common.{◌≡◌, ℕ, zero, suc, ◌+◌, ◌<◌, ◌≤◌, ◌⊎◌, List, length, get_or, Some, None, sym, refl, ap, ◌∙◌, subst, inl, inr, ⊎_elim, add-one, arith}
+use Rattle.std.proofs.Common.{◌≡◌, ℕ, zero, suc, ◌+◌, ◌<◌, ◌≤◌, List, length, get_or, Some, None, sym, refl, ap, ◌∙◌, subst, ⊎_elim, add-one, arith}
 use Rattle.std.proofs.lemmas.Bool.{cases_lt}
 use Rattle.intern.specs.declared.cell.Cell.{Cell}
 use Rattle.tableau.specs.Positions.{Position}
 use Rattle.search.specs.declared.row.Row.{Row}
 use Rattle.search.specs.declared.layers.Found.TheVariants.{Can, Cannot, Short}
 use Rattle.search.specs.Rows.{position}
-use Rattle.search.specs.Layers.{held, Listed, Apart, IndexedRows, Grown, After, Came, Spread, FoundIn, LedTo, Least, Within, Unended, Traced, Exactly, Searched}
+use Rattle.search.specs.Layers.{held, Listed, Apart, IndexedRows, Grown, After, Came, Spread, FoundIn, LedTo, Within, Unended, Traced, Searched}
 use Rattle.search.proofs.Entering.{indexed_apart}
-use Rattle.search.proofs.Lists.{blank, here, listed_split, listed_wider, listed_kept, listed_new, SameRows}
+use Rattle.search.proofs.Lists.{blank, listed_split, listed_wider, listed_kept, listed_new, SameRows}
 
 pub record Level (I : Position → Type 0) (S : Position → Position → Type 0) (E : Position → Type 0) (xs ys : List (Cell Row)) (start filled depth : ℕ) : Type 0 where
   pub order : start ≤ filled

@@ -1,6 +1,6 @@
 -- The next labels in the cells, and the positions that they make.
-use Rattle.std.proofs.Common.{◌≡◌, ℕ, zero, suc, ◌+◌, ◌^◌, ◌<◌, ◌≤◌, min, Bool, true, false, ◌⊎◌, ◌↔◌, List, [], ◌∷◌, map, length, get_or, Some, None, Option, sym, refl, ap, ◌∙◌, subst, inl, inr, arith}
-use Rattle.std.proofs.lemmas.List.{get_or-map, get_or_default, length-map}
+use Rattle.std.proofs.Common.{◌≡◌, ℕ, ◌^◌, ◌<◌, ◌≤◌, true, false, List, [], ◌∷◌, map, length, get_or, Some, None, sym, refl, ap, ◌∙◌, subst, inl, inr, arith}
+use Rattle.std.proofs.lemmas.List.{get_or-map, length-map}
 use Rattle.intern.specs.declared.cell.Cell.{Cell}
 use Rattle.intern.specs.Index.{items}
 use Rattle.intern.specs.Links.{leaf}
@@ -13,14 +13,14 @@ use Rattle.tableau.proofs.Counting.{no_longer}
 use Rattle.viability.specs.Moments.{moment}
 use Rattle.viability.proofs.Shown.{shows_moment}
 use Rattle.successors.specs.declared.label.NextLabel.{NextLabel}
-use Rattle.successors.specs.Cells.{same_label, label_turn, labels, capacity, Lists}
+use Rattle.successors.specs.Cells.{same_label, label_turn, labels, capacity}
 use Rattle.successors.specs.Handing.{ListsNext}
 use Rattle.search.specs.declared.row.Row.{Row}
 use Rattle.search.specs.declared.labels.Pattern.{Pattern}
 use Rattle.search.specs.Rows.{position}
-use Rattle.search.specs.Layers.{Listed, IndexedRows, Grown, Spread}
+use Rattle.search.specs.Layers.{Listed, Grown, Spread}
 use Rattle.search.specs.Outcomes.{positions}
-use Rattle.search.specs.Questions.{at_place, SomeOf, Labelled, LabelledOr, HoldsNext, Known, Overfull, Patterned}
+use Rattle.search.specs.Questions.{at_place, SomeOf, Labelled, LabelledOr, Known, Patterned}
 use Rattle.search.proofs.Answering.{length_positions, listed_in}
 use Rattle.search.proofs.Lists.{grown_like, grown_to, listed_to}
 use Rattle.search.proofs.Members.{in_at, at_in}

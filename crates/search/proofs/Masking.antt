@@ -1,10 +1,9 @@
 -- The mask of the atoms that hold.
-use Rattle.std.proofs.Common.{◌≡◌, ℕ, ◌+◌, ◌^◌, ◌<◌, ◌≤◌, Bool, true, false, ◌⊎◌, ◌↔◌, sym, refl, ap, ◌∙◌, subst, inl, inr, ⊎_elim, arith}
+use Rattle.std.proofs.Common.{◌≡◌, ℕ, ◌+◌, ◌^◌, Bool, true, false, sym, refl, ap, ◌∙◌, subst, inl, inr, arith}
 use lib.Bits.{bit_or}
 use Rattle.std.proofs.lemmas.Bool.{cases_eq, both_ways}
 use Rattle.theory.specs.Meaning.{Meaning}
 use Rattle.theory.specs.declared.next.Next.{Next}
-use Rattle.theory.specs.declared.next.Next.TheVariants.{Code, Last}
 use Rattle.judge.specs.Marks.{is_last}
 use Rattle.tableau.specs.Labels.{◌∈◌, has}
 use Rattle.tableau.proofs.Masks.{zero_has, has?}

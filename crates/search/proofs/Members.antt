@@ -1,5 +1,5 @@
 -- Lists by their entries.
-use Rattle.std.proofs.Common.{◌≡◌, ℕ, zero, suc, ◌+◌, ◌-◌, ◌<◌, ◌≤◌, ◌⊎◌, ◌↔◌, List, [], ◌∷◌, length, get_or, drop, sym, refl, ap, ◌∙◌, subst, inl, inr, arith}
+use Rattle.std.proofs.Common.{◌≡◌, ℕ, zero, suc, ◌<◌, ◌≤◌, List, [], ◌∷◌, length, get_or, drop, sym, refl, inl, inr, arith}
 use Rattle.tableau.specs.Positions.{In, Distinct}
 
 pub in_at : {X : Type 0} (l : List X) (k : ℕ) (d : X) → k < length l → In (get_or l k d) l

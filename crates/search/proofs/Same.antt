@@ -1,9 +1,9 @@
 -- Rows that hold one position.
-use Rattle.std.proofs.Common.{◌≡◌, ℕ, Bool, true, false, eqb, sym, refl, ap, ◌∙◌}
+use Rattle.std.proofs.Common.{◌≡◌, ℕ, Bool, true, sym, ap, ◌∙◌}
 use Rattle.std.proofs.lemmas.Bool.{and_parts, and_from, eqb-true, eq-eqb}
 use Rattle.tableau.specs.Positions.{Position}
 use Rattle.search.specs.declared.row.Row.{Row}
-use Rattle.search.specs.Rows.{position, same_position, mixed, row_turn}
+use Rattle.search.specs.Rows.{position, same_position, row_turn}
 
 pub same_is : (x y : Row) → same_position x y ≡ true → position x ≡ position y
 same_is x y e =

@@ -1,10 +1,10 @@
 -- The labels in the cells are those to which the steps at a code lead.
-use Rattle.std.proofs.Common.{◌≡◌, ℕ, suc, ◌+◌, ◌^◌, ◌<◌, ◌≤◌, min, Bool, true, false, ◌⊎◌, ◌↔◌, List, length, Some, None, Decides, sym, refl, ap, ◌∙◌, subst, inl, inr, arith}
+use Rattle.std.proofs.Common.{◌≡◌, ℕ, suc, ◌+◌, ◌^◌, ◌<◌, ◌≤◌, min, Bool, true, false, List, length, Some, None, Decides, sym, refl, ap, ◌∙◌, subst, inl, inr, arith}
 use Rattle.intern.specs.declared.cell.Cell.{Cell}
 use Rattle.theory.specs.Meaning.{Meaning}
 use Rattle.theory.specs.declared.next.Next.TheVariants.{Code, Last}
 use Rattle.ltlf.specs.Contents.{Contents}
-use Rattle.tableau.specs.Labels.{Label, ◌∈◌}
+use Rattle.tableau.specs.Labels.{Label}
 use Rattle.tableau.specs.Expansion.{Sound}
 use Rattle.tableau.specs.Positions.{Position, Question, Starts, Step, Ends, In, Visited, last_place}
 use Rattle.tableau.proofs.Masks.{same_members}
@@ -16,9 +16,8 @@ use Rattle.successors.specs.Cells.{labels}
 use Rattle.search.specs.declared.row.Row.{Row}
 use Rattle.search.specs.declared.visits.Visits.{Visits}
 use Rattle.search.specs.declared.labels.Pattern.{Pattern}
-use Rattle.search.specs.Rows.{position}
 use Rattle.search.specs.Layers.{Spread}
-use Rattle.search.specs.Questions.{at_place, facts_at, Shown, Allowed, HasRules, StartsAt, StepsFrom, SomeOf, Labelled, LabelledOr, HoldsNext, Known, Overfull, Patterned}
+use Rattle.search.specs.Questions.{facts_at, Shown, Allowed, HasRules, StartsAt, StepsFrom, SomeOf, Labelled, LabelledOr, HoldsNext, Overfull, Patterned}
 use Rattle.search.proofs.Families.{spread_some, spread_none, Collected, collected_more, collected_short}
 use Rattle.search.proofs.Listing.{by_parts}
 use Rattle.search.proofs.Masking.{shows}

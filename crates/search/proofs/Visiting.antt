@@ -1,8 +1,7 @@
 -- What may stand at a place.
-use Rattle.std.proofs.Common.{◌≡◌, ℕ, zero, suc, ◌+◌, ◌<◌, ◌≤◌, ◌↔◌, List, [], ◌∷◌, length, get_or, sym, refl, ap, ◌∙◌, subst, arith}
+use Rattle.std.proofs.Common.{◌≡◌, ℕ, zero, suc, ◌+◌, ◌<◌, ◌≤◌, ◌↔◌, List, [], ◌∷◌, length, get_or, arith}
 use Rattle.tableau.specs.Positions.{Visited}
 use Rattle.search.specs.Questions.{Allowed}
-use Rattle.search.specs.declared.visits.Visits.{Visits}
 
 pub visited_past : (codes : ℕ) (kept : List ℕ) (p c : ℕ) → length kept ≤ p → Visited codes kept p c ↔ (c < codes)
 visited_past codes [] p c h = ((λ v. v), (λ v. v))

@@ -1,5 +1,5 @@
 -- What the call of a search answers and leaves, whatever it is given.
-use Rattle.std.specs.Prelude.{◌≡◌, ℕ, Bool, cond, not, List, length, Ok, Err, Result, nat_lt}
+use Rattle.std.specs.Prelude.{◌≡◌, ℕ, cond, not, List, length, Ok, Err, Result, nat_lt}
 use Rattle.intern.specs.declared.cell.Cell.{Cell}
 use Rattle.refusal.specs.declared.Refusal.{Refusal}
 use Rattle.refusal.specs.declared.Refusal.TheVariants.{CountsOutOfRange, CountsDiffer, BadVisitList, BadBuffer}

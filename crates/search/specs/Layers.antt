@@ -1,5 +1,5 @@
 -- What a search does to its rows, layer by layer. I, S and E are the starting positions, the steps, and the positions that end.
-use Rattle.std.specs.Prelude.{◌≡◌, ℕ, zero, suc, ◌+◌, ◌^◌, ◌<◌, ◌≤◌, List, length, get_or, Some, None, Option, ◌≢◌, slice_index_or}
+use Rattle.std.specs.Prelude.{◌≡◌, ℕ, zero, suc, ◌^◌, ◌<◌, ◌≤◌, List, length, get_or, Some, None, Option, ◌≢◌, slice_index_or}
 use Rattle.intern.specs.declared.cell.Cell.{Cell}
 use Rattle.intern.specs.Index.{Indexed}
 use Rattle.tableau.specs.Positions.{Position, Question, last_place}

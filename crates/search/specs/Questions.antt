@@ -1,13 +1,13 @@
 -- The question of a theory, a book and kept visits, and where its steps lead.
-use Rattle.std.specs.Prelude.{◌≡◌, ℕ, ◌^◌, ◌<◌, ◌≤◌, Bool, true, false, ◌⊎◌, ◌↔◌, List, length, Some, None, Option}
+use Rattle.std.specs.Prelude.{◌≡◌, ℕ, ◌^◌, ◌<◌, ◌≤◌, true, false, ◌⊎◌, ◌↔◌, List, length, Some, None, Option}
 use Rattle.intern.specs.declared.cell.Cell.{Cell}
 use Rattle.theory.specs.Meaning.{Meaning}
 use Rattle.theory.specs.declared.next.Next.{Next}
-use Rattle.theory.specs.declared.next.Next.TheVariants.{Code, Last}
+use Rattle.theory.specs.declared.next.Next.TheVariants.{Code}
 use Rattle.ltlf.specs.Contents.{Contents}
 use Rattle.judge.specs.Formulas.{Among}
-use Rattle.tableau.specs.Labels.{Label, ◌∈◌, has}
-use Rattle.tableau.specs.Positions.{Position, Question, In, Distinct, Visited, last_place}
+use Rattle.tableau.specs.Labels.{Label, ◌∈◌}
+use Rattle.tableau.specs.Positions.{Position, Question, In, Distinct, Visited}
 use Rattle.tableau.specs.Continuations.{WellPosed}
 use Rattle.viability.specs.Moments.{Moment, Shows, HandsOn}
 use Rattle.viability.specs.Viable.{known_part}

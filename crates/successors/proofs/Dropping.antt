@@ -1,21 +1,20 @@
 -- A member that can hand on only what the next label has may be dropped; what is handed on whatever is chosen may be put there at once.
-use Rattle.std.proofs.Common.{◌≡◌, ℕ, zero, suc, ◌+◌, ◌^◌, ◌<◌, ◌≤◌, Bool, true, false, ◌⊎◌, ◌↔◌, List, [], ◌∷◌, length, get_or, sym, refl, ap, ◌∙◌, subst, inl, inr, ⊎_elim, arith}
-use mathlib.Core.Path.{subst⁻¹}
+use Rattle.std.proofs.Common.{◌≡◌, ℕ, zero, suc, ◌+◌, ◌^◌, ◌<◌, ◌≤◌, ◌⊎◌, ◌↔◌, List, length, get_or, refl, subst, inl, inr, arith}
 use native.Mathlib.Decide.{ℕ_discrete}
 use lib.Bits.{bit_or, bit_xor}
 use Rattle.ltlf.specs.Contents.{Contents, Proper}
 use Rattle.judge.specs.Formulas.{node_at, Among}
-use Rattle.tableau.specs.Labels.{Label, ◌∈◌}
-use Rattle.tableau.specs.Expansion.{Side, one, other, Choice, parts, handed_on, Expansion, member, part, HandedOn}
-use Rattle.tableau.proofs.Masks.{zero_has, member?}
+use Rattle.tableau.specs.Labels.{◌∈◌}
+use Rattle.tableau.specs.Expansion.{Side, Choice, parts, handed_on, Expansion, member, part, HandedOn}
+use Rattle.tableau.proofs.Masks.{member?}
 use Rattle.tableau.proofs.Steps.{part_before}
-use Rattle.viability.specs.Moments.{Moment, Admits, SoundAt}
+use Rattle.viability.specs.Moments.{Moment, SoundAt}
 use Rattle.viability.specs.Offers.{Inside, Under, Without, label_of}
 use Rattle.viability.specs.Viable.{Fits, Viable}
 use Rattle.viability.proofs.Bits.{in_or, in_or_left, in_or_right, label_has, without_xor, without_none}
 use Rattle.viability.proofs.Viability.{sound_inside}
 use Rattle.successors.specs.Handing.{Hands, Moves}
-use Rattle.successors.specs.Ways.{From, Reaches, Musts}
+use Rattle.successors.specs.Ways.{Reaches, Musts}
 use Rattle.successors.proofs.Handing.{hands_down, hands_up}
 
 -- N' is N with formulas that members of S hand on whatever is chosen

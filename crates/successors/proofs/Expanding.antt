@@ -1,26 +1,26 @@
 -- The ways on from a state.
-use Rattle.std.proofs.Common.{◌≡◌, ℕ, suc, ◌+◌, ◌^◌, ◌<◌, ◌≤◌, Bool, true, false, ◌⊎◌, ◌↔◌, List, length, get_or, Some, None, Option, sym, refl, ap, ◌∙◌, subst, inl, inr, arith}
+use Rattle.std.proofs.Common.{◌≡◌, ℕ, suc, ◌^◌, ◌<◌, Bool, true, false, ◌⊎◌, List, length, get_or, Some, None, Option, sym, refl, ◌∙◌, subst, inl, inr, arith}
 use mathlib.Core.Path.{subst⁻¹}
 use native.Mathlib.Decide.{ℕ_discrete}
 use lib.Bits.{bit_or, or_zero_l}
 use Rattle.std.proofs.lemmas.Bool.{false≢true}
 use Rattle.ltlf.specs.Contents.{Contents, Proper}
 use Rattle.intern.specs.declared.cell.Cell.{Cell}
-use Rattle.judge.specs.Formulas.{node_at, Among}
-use Rattle.tableau.specs.Labels.{Label, ◌∈◌}
+use Rattle.judge.specs.Formulas.{node_at}
+use Rattle.tableau.specs.Labels.{◌∈◌}
 use Rattle.tableau.specs.Expansion.{Side, parts, handed_on, member, part}
 use Rattle.tableau.proofs.Masks.{bit_has, zero_has}
 use Rattle.tableau.proofs.Steps.{part_before}
 use Rattle.viability.specs.declared.offer.Offer.{Offer}
-use Rattle.viability.specs.Moments.{Moment, Shows, HandsOn, moment}
-use Rattle.viability.specs.Offers.{Inside, Under, Without, label_of}
-use Rattle.viability.specs.Viable.{Fits, Viable, known_part, Tells}
+use Rattle.viability.specs.Moments.{Moment, HandsOn, moment}
+use Rattle.viability.specs.Offers.{Inside, Under, Without}
+use Rattle.viability.specs.Viable.{Fits, known_part, Tells}
 use Rattle.viability.proofs.Bits.{in_or, in_or_left, in_or_right, label_has}
 use Rattle.viability.proofs.Shown.{hands_shown}
 use Rattle.viability.proofs.Viability.{sound_inside}
 use Rattle.successors.specs.declared.label.NextLabel.{NextLabel}
 use Rattle.successors.specs.declared.ways.Ways.{Ways}
-use Rattle.successors.specs.Cells.{Filled, Taken, Lists}
+use Rattle.successors.specs.Cells.{Filled}
 use Rattle.successors.specs.Handing.{Hands, Moves, Top, ListsNext}
 use Rattle.successors.specs.Ways.{LikeSide, WayOn, WaysOn, Gathers, Guided}
 use Rattle.successors.proofs.Handing.{under_moves, hands_down, hands_up, hands_none, hands_start}

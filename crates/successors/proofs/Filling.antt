@@ -1,21 +1,21 @@
 -- The ways on from each viable formula, and their masks, formula by formula.
-use Rattle.std.proofs.Common.{◌≡◌, ℕ, zero, suc, ◌+◌, ◌-◌, ◌/◌, ◌%◌, ◌^◌, ◌<◌, ◌≤◌, min, Bool, true, false, ◌⊎◌, ◌↔◌, List, [], ◌∷◌, length, get_or, set, sym, refl, ap, ◌∙◌, subst, inl, inr, ⊎_elim, arith}
+use Rattle.std.proofs.Common.{◌≡◌, ℕ, zero, suc, ◌+◌, ◌-◌, ◌/◌, ◌%◌, ◌^◌, ◌<◌, ◌≤◌, true, false, ◌⊎◌, ◌↔◌, List, length, get_or, set, sym, refl, ap, ◌∙◌, subst, inl, inr, arith}
 use mathlib.Core.Path.{subst⁻¹}
 use native.Mathlib.Decide.{ℕ_discrete}
 use lib.Bits.{bit_or, bit_and, and_shr, and_mod}
 use lib.Count.{count_leading_zeros}
 use Rattle.std.proofs.lemmas.Nat.{leading_top}
-use Rattle.std.proofs.lemmas.List.{length-set, get_or-set_same, get_or-set_other}
+use Rattle.std.proofs.lemmas.List.{get_or-set_same, get_or-set_other}
 use Rattle.std.proofs.lemmas.Bool.{false≢true}
 use Rattle.ltlf.specs.Contents.{Contents, Proper}
 use Rattle.judge.specs.Formulas.{node_at, Among}
-use Rattle.tableau.specs.Labels.{Label, ◌∈◌}
+use Rattle.tableau.specs.Labels.{◌∈◌}
 use Rattle.tableau.specs.Expansion.{Side, one, other, parts, handed_on}
 use Rattle.tableau.proofs.Masks.{zero_has, member?, small}
 use Rattle.tableau.proofs.Steps.{part_before}
 use Rattle.viability.specs.declared.offer.Offer.{Offer}
 use Rattle.viability.specs.Moments.{Moment}
-use Rattle.viability.specs.Offers.{Inside, Under, Without, Offered, label_of}
+use Rattle.viability.specs.Offers.{Inside, Under, Without, Offered}
 use Rattle.viability.specs.Viable.{Fits, Viable}
 use Rattle.viability.proofs.Bits.{in_below, in_or, in_or_left, in_or_right, label_has, inside_parts}
 use Rattle.successors.specs.declared.ways.Ways.{Ways}

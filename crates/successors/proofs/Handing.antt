@@ -1,15 +1,15 @@
 -- What a state hands on is what its states after one member hand on.
-use Rattle.std.proofs.Common.{◌≡◌, ℕ, zero, suc, ◌+◌, ◌^◌, ◌<◌, ◌≤◌, Bool, true, false, ◌⊎◌, ◌↔◌, List, [], ◌∷◌, length, get_or, sym, refl, ap, ◌∙◌, subst, inl, inr, ⊎_elim, arith}
+use Rattle.std.proofs.Common.{◌≡◌, ℕ, ◌+◌, ◌<◌, ◌⊎◌, ◌↔◌, sym, refl, subst, inl, inr, arith}
 use mathlib.Core.Path.{subst⁻¹}
-use native.Mathlib.Decide.{dec_lt, ℕ_discrete}
+use native.Mathlib.Decide.{ℕ_discrete}
 use Rattle.ltlf.specs.Contents.{Contents, Proper}
 use Rattle.judge.specs.Formulas.{node_at, Among}
-use Rattle.tableau.specs.Labels.{Label, ◌∈◌}
-use Rattle.tableau.specs.Expansion.{Side, one, other, Choice, parts, handed_on, Expansion, member, part, HandedOn}
+use Rattle.tableau.specs.Labels.{◌∈◌}
+use Rattle.tableau.specs.Expansion.{Side, one, Choice, parts, handed_on, Expansion, member, part, HandedOn}
 use Rattle.tableau.proofs.Masks.{zero_has, same_members}
 use Rattle.tableau.proofs.Steps.{part_before}
-use Rattle.viability.specs.Moments.{Moment, Admits, SoundAt, HandsOn}
-use Rattle.viability.specs.Offers.{Inside, Under}
+use Rattle.viability.specs.Moments.{Moment, Admits, HandsOn}
+use Rattle.viability.specs.Offers.{Under}
 use Rattle.successors.specs.Handing.{Hands, Moves}
 
 -- the choice κ, with the side s for k

@@ -1,5 +1,5 @@
 -- The table of states that are done.
-use Rattle.std.proofs.Common.{◌≡◌, ℕ, zero, suc, ◌<◌, ◌≤◌, Bool, true, false, ◌&&◌, ◌⊎◌, List, [], ◌∷◌, length, get_or, set, replicate, Some, None, Option, sym, refl, ap, ◌∙◌, subst, inl, inr, arith}
+use Rattle.std.proofs.Common.{◌≡◌, ℕ, ◌<◌, Bool, true, false, ◌&&◌, List, length, get_or, set, replicate, Some, None, Option, sym, refl, ap, ◌∙◌, subst, inl, inr, arith}
 use mathlib.Core.Path.{subst⁻¹}
 use native.Mathlib.Decide.{ℕ_discrete}
 use Rattle.std.proofs.lemmas.List.{length-set, get_or-set_same, get_or-set_other, get_or-replicate, length-replicate, get_or_default}
@@ -69,8 +69,7 @@ pub seen_stands : (ts : List State) (j S N : ℕ) (e : State) (r : Bool) → j <
     → r ≡ true → Stands ts (state S N)
 seen_stands ts j S N e r lt h z =
     let one = and_parts _ _ (sym h ∙ z) in
-    let two = and_parts _ _ one.1 in
-    (
+    let two = and_parts _ _ one.1 in (
       j,
       lt,
       λ d. get_or_default ts j d e lt ∙

@@ -1,5 +1,5 @@
 -- Labels entered in cells, each once.
-use Rattle.std.specs.Prelude.{◌≡◌, ℕ, ◌-◌, ◌*◌, ◌/◌, ◌%◌, ◌^◌, ◌≤◌, min, Bool, ◌⊎◌, ◌↔◌, List, map, length, drop, Some, None, Option, ◌==◌}
+use Rattle.std.specs.Prelude.{◌≡◌, ℕ, ◌-◌, ◌*◌, ◌/◌, ◌%◌, ◌^◌, ◌≤◌, min, Bool, ◌⊎◌, List, map, length, drop, Some, None, Option, ◌==◌}
 use Rattle.intern.specs.declared.cell.Cell.{Cell}
 use Rattle.intern.specs.Index.{items, Indexed}
 use Rattle.tableau.specs.Labels.{Label}

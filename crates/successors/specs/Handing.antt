@@ -1,5 +1,5 @@
 -- What is handed on from a state of the expansion: the members still open, and the next label so far.
-use Rattle.std.specs.Prelude.{◌≡◌, ℕ, ◌+◌, ◌^◌, ◌≤◌, Bool, ◌⊎◌, ◌↔◌, List, length, Option, ◌≢◌}
+use Rattle.std.specs.Prelude.{ℕ, ◌+◌, ◌^◌, ◌≤◌, Bool, ◌⊎◌, ◌↔◌, List, Option, ◌≢◌}
 use Rattle.ltlf.specs.Contents.{Contents}
 use Rattle.intern.specs.declared.cell.Cell.{Cell}
 use Rattle.judge.specs.Formulas.{node_at, Among}

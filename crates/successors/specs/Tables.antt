@@ -1,5 +1,5 @@
 -- A table of states whose labels have all been entered.
-use Rattle.std.specs.Prelude.{◌≡◌, ℕ, ◌<◌, true, false, ◌⊎◌, List, length, Some, None, Option, slice_index_or, slice_set}
+use Rattle.std.specs.Prelude.{◌≡◌, ℕ, ◌<◌, true, ◌⊎◌, List, length, Some, None, Option, slice_index_or, slice_set}
 use Rattle.ltlf.specs.Contents.{Contents}
 use Rattle.intern.specs.declared.cell.Cell.{Cell}
 use Rattle.tableau.specs.Labels.{Label}

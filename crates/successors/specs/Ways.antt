@@ -1,5 +1,5 @@
 -- The ways on from each viable formula, what they can hand on, and what they hand on whatever is chosen.
-use Rattle.std.specs.Prelude.{◌≡◌, ℕ, ◌<◌, ◌≤◌, Bool, true, ◌⊎◌, ◌↔◌, List, length, get_or, slice_index_or}
+use Rattle.std.specs.Prelude.{◌≡◌, ℕ, ◌<◌, true, ◌⊎◌, ◌↔◌, List, length, get_or, slice_index_or}
 use Rattle.ltlf.specs.Contents.{Contents, Proper}
 use Rattle.judge.specs.Formulas.{node_at, Among}
 use Rattle.tableau.specs.Labels.{Label, ◌∈◌}

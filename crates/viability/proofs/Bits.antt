@@ -1,15 +1,14 @@
 -- What the bits of a label say.
-use Rattle.std.proofs.Common.{◌≡◌, ℕ, zero, suc, ◌+◌, ◌-◌, ◌*◌, ◌/◌, ◌%◌, ◌^◌, ◌<◌, ◌≤◌, Bool, true, false, eqb, ◌⊎◌, ◌↔◌, List, [], ◌∷◌, Decides, sym, refl, ap, ◌∙◌, subst, inl, inr, ⊎_elim, lt_of_lt_of_le, mod-eq_of_lt, arith, pow_mono}
+use Rattle.std.proofs.Common.{◌≡◌, ℕ, zero, suc, ◌/◌, ◌%◌, ◌^◌, ◌<◌, ◌≤◌, Bool, true, false, eqb, ◌⊎◌, ◌↔◌, List, [], ◌∷◌, Decides, sym, refl, ap, ◌∙◌, subst, inl, inr, ⊎_elim, lt_of_lt_of_le, mod-eq_of_lt, arith, pow_mono}
 use mathlib.Core.Path.{subst⁻¹}
-use native.Mathlib.Decide.{ℕ_discrete, dec_lt}
 use native.Mathlib.Nat.{div-eq_of_lt}
 use lib.Bits.{bit_and, bit_or, bit_xor, xor_shr, xor_mod, and_mask}
 use Rattle.std.proofs.lemmas.Nat.{pow_pos}
 use Rattle.std.proofs.lemmas.Bool.{cases_lt, eqb-true, eq-eqb, both_ways}
 use Rattle.judge.specs.Formulas.{Among}
-use Rattle.tableau.specs.Labels.{Label, ◌∈◌, has}
+use Rattle.tableau.specs.Labels.{◌∈◌, has}
 use Rattle.tableau.proofs.Masks.{zero_has, bit_has, or_has, same_members, has?}
-use Rattle.viability.specs.Offers.{Inside, Under, Without, label_of}
+use Rattle.viability.specs.Offers.{Inside, Without, label_of}
 
 pub and_one : (n : ℕ) → bit_and n 1 ≡ n % 2
 and_one n = and_mask n 1

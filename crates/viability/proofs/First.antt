@@ -1,5 +1,5 @@
 -- The first choice that is tried is sound.
-use Rattle.std.proofs.Common.{◌≡◌, ℕ, Bool, true, false, ◌⊎◌, Decides, sym, refl, ◌∙◌, subst, inl, inr}
+use Rattle.std.proofs.Common.{◌≡◌, ℕ, Bool, true, false, Decides, sym, refl, ◌∙◌, subst, inl, inr}
 use mathlib.Core.Path.{subst⁻¹}
 use lib.Bits.{bit_or}
 use Rattle.std.proofs.lemmas.Bool.{false≢true}

@@ -1,5 +1,5 @@
 -- Soundness depends on a moment only through the atoms that hold there, and whether it is the last.
-use Rattle.std.proofs.Common.{◌≡◌, ℕ, ◌<◌, ◌≤◌, Bool, true, false, ltb, ◌↔◌, length, sym, refl, ◌∙◌, subst, arith}
+use Rattle.std.proofs.Common.{◌≡◌, ℕ, Bool, true, false, ◌↔◌, length, sym, refl, ◌∙◌, subst, arith}
 use native.Mathlib.Decide.{dec_lt}
 use Rattle.std.proofs.lemmas.List.{get_or_past}
 use Rattle.std.proofs.lemmas.Bool.{ltb-true, both_ways}
@@ -11,9 +11,9 @@ use Rattle.ltlf.specs.declared.node.Node.{Node}
 use Rattle.ltlf.specs.declared.node.Node.TheVariants.{True, False, Atom, NotAtom, And, Or, Tomorrow, WeakTomorrow, Until, Release}
 use Rattle.judge.specs.Formulas.{node_at}
 use Rattle.judge.specs.Marks.{is_last}
-use Rattle.tableau.specs.Labels.{Label, has}
+use Rattle.tableau.specs.Labels.{Label}
 use Rattle.tableau.specs.Expansion.{Side, one, other, Choice, Goes_on}
-use Rattle.viability.specs.Moments.{Moment, Admits, SoundAt, SomeSound, HandsOn, Shows, moment, coming}
+use Rattle.viability.specs.Moments.{Moment, Admits, SoundAt, SomeSound, HandsOn, Shows, moment}
 
 goes : (n n' : Next) → is_last n ≡ is_last n' → Goes_on n → Goes_on n'
 goes (Code c) (Code c') e h = tt

@@ -1,15 +1,14 @@
 -- A label has a sound choice exactly if its members are viable.
-use Rattle.std.proofs.Common.{◌≡◌, ℕ, zero, suc, ◌+◌, ◌%◌, ◌^◌, ◌<◌, ◌≤◌, Bool, true, false, ◌||◌, ◌⊎◌, ◌↔◌, List, [], ◌∷◌, length, get_or, sym, refl, ap, ◌∙◌, subst, inl, inr, ⊎_elim, arith}
+use Rattle.std.proofs.Common.{◌≡◌, ℕ, zero, suc, ◌+◌, ◌^◌, ◌<◌, Bool, ◌↔◌, length, subst, ⊎_elim, arith}
 use mathlib.Core.Path.{subst⁻¹}
-use native.Mathlib.Decide.{dec_lt, ℕ_discrete}
+use native.Mathlib.Decide.{ℕ_discrete}
 use lib.Bits.{bit_or}
 use Rattle.ltlf.specs.Contents.{Contents, Proper}
-use Rattle.judge.specs.Formulas.{node_at, Among}
-use Rattle.tableau.specs.Labels.{Label, ◌∈◌}
-use Rattle.tableau.specs.Expansion.{Side, one, other, Choice, parts, Expansion, member, part}
+use Rattle.tableau.specs.Labels.{◌∈◌}
+use Rattle.tableau.specs.Expansion.{Side, one, other, Choice, Expansion, member, part}
 use Rattle.tableau.proofs.Masks.{zero_has, member?}
 use Rattle.tableau.proofs.Steps.{part_before}
-use Rattle.viability.specs.Moments.{Moment, Admits, SoundAt, SomeSound, Shows, moment}
+use Rattle.viability.specs.Moments.{Moment, SoundAt, SomeSound, moment}
 use Rattle.viability.specs.Offers.{Inside, Under}
 use Rattle.viability.specs.Viable.{Fits, FitsSomehow, Viable, ViableBelow, known_part, Tells}
 use Rattle.viability.proofs.Bits.{in_or_left, in_with, with_has, in_low}

@@ -1,5 +1,5 @@
 -- What a member of an expansion asks and brings on one of its sides, as labels.
-use Rattle.std.specs.Prelude.{◌≡◌, ℕ, ◌^◌, ◌<◌, Bool, true, false, ◌↔◌, List, [], ◌∷◌, Decides, ◌≢◌, bit_or}
+use Rattle.std.specs.Prelude.{◌≡◌, ℕ, ◌^◌, ◌<◌, ◌↔◌, List, [], ◌∷◌, Decides, ◌≢◌, bit_or}
 use Rattle.ltlf.specs.declared.node.Node.{Node}
 use Rattle.ltlf.specs.declared.node.Node.TheVariants.{True, False, Atom, NotAtom, And, Or, Tomorrow, WeakTomorrow, Until, Release}
 use Rattle.tableau.specs.Labels.{Label, ◌∈◌}

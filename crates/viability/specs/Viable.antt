@@ -1,9 +1,9 @@
 -- The formulas that have a sound expansion.
-use Rattle.std.specs.Prelude.{◌≡◌, ℕ, ◌%◌, ◌^◌, ◌<◌, Bool, ◌↔◌, length, Decides}
+use Rattle.std.specs.Prelude.{ℕ, ◌%◌, ◌^◌, ◌<◌, Bool, ◌↔◌, length, Decides}
 use Rattle.ltlf.specs.Contents.{Contents}
 use Rattle.judge.specs.Formulas.{node_at, Among}
 use Rattle.tableau.specs.Labels.{Label, ◌∈◌}
-use Rattle.tableau.specs.Expansion.{Side, Choice, parts}
+use Rattle.tableau.specs.Expansion.{Side, parts}
 use Rattle.viability.specs.Moments.{Moment, Admits, SomeSound, Shows}
 use Rattle.viability.specs.Offers.{Inside, Under}
 

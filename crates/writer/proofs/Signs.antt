@@ -1,7 +1,7 @@
 -- The texts of signed numbers.
-use Rattle.std.proofs.Common.{◌≡◌, ℕ, suc, Bool, true, false, List, ◌∷◌, ℤ, pos, negsuc, nat_abs, decimal, sym, refl, ap, ◌∙◌, subst, arith, w32, SFits, to_z, of_z}
+use Rattle.std.proofs.Common.{◌≡◌, ℕ, true, false, ◌∷◌, ℤ, pos, negsuc, nat_abs, decimal, sym, refl, ap, ◌∙◌, subst, arith, w32, SFits, to_z, of_z}
 use lib.Signed.{lt_z}
-use Rattle.std.proofs.lemmas.Int.{ints, to_z-of_z}
+use Rattle.std.proofs.lemmas.Int.{to_z-of_z}
 use Rattle.std.proofs.lemmas.Bool.{ltb-true}
 use Rattle.std.specs.Fmt.{signed_decimal}
 

@@ -1,4 +1,4 @@
-use Rattle.std.proofs.Common.{◌≡◌, ℕ, List, length, decimal, sym, ap, ◌∙◌}
+use Rattle.std.proofs.Common.{ℕ, List, length, decimal, sym, ap, ◌∙◌}
 use Rattle.std.specs.Fmt.{signed_decimal}
 use Rattle.writer.specs.Puts.{put_answer, put_leaves}
 use Rattle.writer.proofs.Firsts.{first_past, first_none, first_some}

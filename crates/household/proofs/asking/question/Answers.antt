@@ -1,4 +1,4 @@
-use Rattle.std.proofs.Common.{◌≡◌, ℕ, ◌≤◌, length, take, sym, ap, ◌∙◌, subst, arith}
+use Rattle.std.proofs.Common.{ℕ, length, take, sym, ap, ◌∙◌, subst, arith}
 use Rattle.ltlf.specs.Contents.{book_contents}
 use Rattle.ltlf.proofs.Books.{book_proper, book_few_atoms}
 use Rattle.search.specs.Calls.{search_answer, RowsAfter, HistoryAfter}

@@ -1,4 +1,4 @@
-use Rattle.std.proofs.Common.{◌≡◌, length, ap}
+use Rattle.std.proofs.Common.{length, ap}
 use Rattle.record.specs.Calls.{record_model}
 use Rattle.household.specs.Law.{drawn}
 use Rattle.household.proofs.Strikes.{struck_one}

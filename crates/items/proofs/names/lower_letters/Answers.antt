@@ -1,4 +1,4 @@
-use Rattle.std.proofs.Common.{inl, inr, arith, rules}
+use Rattle.std.proofs.Common.{rules}
 use Rattle.items.proofs.Letters.{letters_end, letters_on, letters_all}
 use Rattle.items.proofs.names.lower_letters.Goals as goal
 

@@ -1,4 +1,4 @@
-use Rattle.std.proofs.Common.{◌≡◌, sym, ◌∙◌, arith, rules}
+use Rattle.std.proofs.Common.{◌∙◌, arith, rules}
 use Rattle.std.proofs.lemmas.Int.{ints}
 use Rattle.items.proofs.Figures.{minus_read, below_none, below_some}
 use Rattle.items.proofs.numbers.whole_number.Goals as goal

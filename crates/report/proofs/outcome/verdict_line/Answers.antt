@@ -1,5 +1,5 @@
-use Rattle.std.proofs.Common.{◌≡◌, sym, refl, ap, arith}
-use Rattle.report.specs.declared.verdict.Verdict.TheVariants.{Can, Cannot, Short}
+use Rattle.std.proofs.Common.{sym, ap, arith}
+use Rattle.report.specs.declared.verdict.Verdict.TheVariants.{Cannot, Short}
 use Rattle.report.specs.Lines.{verdict_text}
 use Rattle.report.proofs.Pieces.{begin, line_is, whole_line}
 use Rattle.report.proofs.outcome.verdict_line.Goals as goal

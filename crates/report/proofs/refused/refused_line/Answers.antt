@@ -1,4 +1,4 @@
-use Rattle.std.proofs.Common.{◌≡◌, ℕ, List, [], ◌∷◌, ◌++◌, codes, decimal, sym, refl, ap, ◌∙◌, append_assoc, arith}
+use Rattle.std.proofs.Common.{◌≡◌, ℕ, List, [], ◌∷◌, ◌++◌, codes, decimal, ap, ◌∙◌, append_assoc, arith}
 use Rattle.refusal.specs.Numbers.{sheet_number, sheet_place}
 use Rattle.report.specs.Lines.{refused_text}
 use Rattle.report.proofs.Pieces.{digits_few, begin, more, line_is}

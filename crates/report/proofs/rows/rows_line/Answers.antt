@@ -1,4 +1,4 @@
-use Rattle.std.proofs.Common.{◌≡◌, refl, arith}
+use Rattle.std.proofs.Common.{refl, arith}
 use Rattle.report.specs.Lines.{rows_text}
 use Rattle.report.proofs.Pieces.{whole_line}
 use Rattle.report.proofs.rows.rows_line.Goals as goal

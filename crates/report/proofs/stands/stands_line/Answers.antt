@@ -1,4 +1,4 @@
-use Rattle.std.proofs.Common.{◌≡◌, [], ◌∷◌, ◌++◌, sym, refl, ap, arith}
+use Rattle.std.proofs.Common.{sym, ap, arith}
 use Rattle.report.specs.declared.standing.Standing.TheVariants.{Yes, No, Unvisited}
 use Rattle.report.specs.Lines.{stands_text}
 use Rattle.report.proofs.Pieces.{begin, line_is}

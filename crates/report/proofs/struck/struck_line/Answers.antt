@@ -1,4 +1,4 @@
-use Rattle.std.proofs.Common.{◌≡◌, Ok, Err, codes, sym, refl, ap, ◌∙◌, arith}
+use Rattle.std.proofs.Common.{Ok, codes, sym, ap, ◌∙◌, arith}
 use Rattle.report.specs.Lines.{numbered_text, struck_text}
 use Rattle.report.proofs.Pieces.{begin, line_is, whole_line}
 use Rattle.report.proofs.struck.struck_line.Goals as goal

@@ -1,4 +1,4 @@
-use Rattle.std.proofs.Common.{◌≡◌, codes, refl, ap, ◌∙◌, arith}
+use Rattle.std.proofs.Common.{codes, ap, ◌∙◌, arith}
 use Rattle.report.specs.Lines.{numbered_text, question_refused_text}
 use Rattle.report.proofs.Pieces.{whole_line}
 use Rattle.report.proofs.unanswered.question_refused_line.Goals as goal

@@ -1,4 +1,4 @@
-use Rattle.std.proofs.Common.{◌≡◌, ◌-◌, ◌≤◌, [], ◌∷◌, take, arith, rules}
+use Rattle.std.proofs.Common.{◌-◌, ◌≤◌, [], ◌∷◌, take, arith, rules}
 use Rattle.theory.specs.Print.{spaced}
 use Rattle.report.proofs.Pieces.{begin, more}
 use Rattle.report.proofs.Visits.{shown, visit_is}

@@ -1,4 +1,4 @@
-use Rattle.std.proofs.Common.{◌≡◌, true, false, refl, subst, arith}
+use Rattle.std.proofs.Common.{◌≡◌, false, refl, subst, arith}
 use Rattle.std.proofs.lemmas.Bool.{both_ways}
 use Rattle.theory.specs.declared.next.Next.TheVariants.{Code}
 use Rattle.ltlf.specs.Contents.{book_contents}

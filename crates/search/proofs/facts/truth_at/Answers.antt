@@ -1,4 +1,4 @@
-use Rattle.std.proofs.Common.{sym, arith}
+use Rattle.std.proofs.Common.{sym}
 use Rattle.search.proofs.Masking.{shown_none, shown_with, shown_without}
 use Rattle.search.proofs.facts.truth_at.Goals as goal
 

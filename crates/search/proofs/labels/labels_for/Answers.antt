@@ -1,4 +1,3 @@
-use Rattle.std.proofs.Common.{refl, subst}
 use Rattle.search.proofs.Listing.{patterned_some, patterned_none}
 use Rattle.search.proofs.labels.labels_for.Goals as goal
 

@@ -1,4 +1,4 @@
-use Rattle.std.proofs.Common.{◌≡◌, ◌^◌, length, sym, arith, lit≤}
+use Rattle.std.proofs.Common.{◌^◌, length, sym, lit≤}
 use Rattle.ltlf.specs.Contents.{book_contents}
 use Rattle.ltlf.proofs.Books.{book_proper}
 use Rattle.search.proofs.Checked.{checked_ready, checked_rows, checked_list, made_room, made_few}

@@ -1,4 +1,4 @@
-use Rattle.successors.proofs.Growing.{enter_found, enter_added, enter_full, enter_broken}
+use Rattle.successors.proofs.Growing.{enter_found, enter_added, enter_full}
 use Rattle.successors.proofs.sink.enter.Goals as goal
 
 pub returns-in-Found : goal.returns-in-Found

@@ -1,4 +1,4 @@
-use Rattle.successors.proofs.Filling.{shared_one, shared_two}
+use Rattle.successors.proofs.Filling.{shared_two}
 use Rattle.successors.proofs.ways.must_of.Goals as goal
 
 pub returns : goal.returns

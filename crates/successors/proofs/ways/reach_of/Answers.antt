@@ -1,4 +1,4 @@
-use Rattle.successors.proofs.Filling.{covers_one, covers_two}
+use Rattle.successors.proofs.Filling.{covers_two}
 use Rattle.successors.proofs.ways.reach_of.Goals as goal
 
 pub returns : goal.returns

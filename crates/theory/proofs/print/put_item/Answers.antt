@@ -1,4 +1,4 @@
-use Rattle.std.proofs.Common.{◌≡◌, ℕ, List, length, sym, ap, ◌∙◌, w32, to_z, of_z}
+use Rattle.std.proofs.Common.{ℕ, List, length, ap, ◌∙◌, w32, to_z, of_z}
 use Rattle.std.specs.Fmt.{signed_decimal}
 use Rattle.writer.proofs.Firsts.{first_past, first_none, first_some}
 use Rattle.writer.specs.Puts.{put_answer, put_leaves}

@@ -1,4 +1,3 @@
-use Rattle.std.proofs.Common.{refl}
 use Rattle.viability.proofs.Bits.{inside_parts}
 use Rattle.viability.proofs.formulas.fits.Goals as goal
 

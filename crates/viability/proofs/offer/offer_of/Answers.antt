@@ -1,4 +1,4 @@
-use Rattle.std.proofs.Common.{◌≡◌, ◌<◌, true, length, sym, refl, subst, arith}
+use Rattle.std.proofs.Common.{◌≡◌, true, sym, refl, subst, arith}
 use Rattle.ltlf.specs.Contents.{book_contents}
 use Rattle.ltlf.specs.declared.node.Node.{Node}
 use Rattle.ltlf.specs.declared.node.Node.TheVariants.{True}

@@ -1,4 +1,4 @@
-use Rattle.std.proofs.Common.{◌≡◌, refl}
+use Rattle.std.proofs.Common.{refl}
 use Rattle.std.proofs.lemmas.Bool.{false≢true, not-true}
 use Rattle.ltlf.specs.Contents.{book_contents}
 use Rattle.viability.specs.Moments.{moment}

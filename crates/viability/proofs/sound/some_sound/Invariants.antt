@@ -1,4 +1,4 @@
-use Rattle.std.proofs.Common.{◌≡◌, false}
+use Rattle.std.proofs.Common.{◌≡◌}
 use Rattle.viability.specs.Offers.{Inside}
 use Rattle.viability.proofs.sound.some_sound.Given as goal
 

@@ -1,5 +1,4 @@
-use Rattle.std.proofs.Common.{sym, ◌∙◌, arith, rules}
-use Rattle.intern.specs.Index.{Indexed}
+use Rattle.std.proofs.Common.{◌∙◌, arith}
 use Rattle.ltlf.proofs.Putting.{put_unknown, found_below, put_found, added_below, put_added, before_more, put_full}
 use Rattle.ltlf.proofs.draft.Draft.put.Goals as goal
 

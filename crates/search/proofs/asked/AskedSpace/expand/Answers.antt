@@ -1,4 +1,4 @@
-use Rattle.std.proofs.Common.{◌≡◌, ℕ, ◌+◌, ◌∙◌, subst, add-one, arith}
+use Rattle.std.proofs.Common.{◌≡◌, ℕ, ◌+◌, subst, add-one, arith}
 use Rattle.ltlf.specs.Contents.{book_contents}
 use Rattle.search.specs.Rows.{position}
 use Rattle.search.specs.Questions.{asked, Allowed}

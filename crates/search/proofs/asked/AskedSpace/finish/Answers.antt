@@ -1,4 +1,4 @@
-use Rattle.std.proofs.Common.{◌≡◌, subst, arith}
+use Rattle.std.proofs.Common.{subst, arith}
 use Rattle.theory.specs.declared.next.Next.TheVariants.{Last}
 use Rattle.ltlf.specs.Contents.{book_contents}
 use Rattle.search.specs.Rows.{position}
