@@ -45,6 +45,10 @@ def own_names():
             m = DEFINED.match(line)
             if m and "-" in m.group(1) and m.group(1) not in KEPT:
                 names.add(m.group(1))
+            # several constructors of one type
+            m = re.match(rf"\s+([A-Za-z][{WORD}]*(?: [A-Za-z][{WORD}]*)+) : ", line)
+            if m:
+                names |= {n for n in m.group(1).split() if "-" in n}
     return names
 
 

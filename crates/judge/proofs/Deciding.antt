@@ -2,7 +2,7 @@
 use Rattle.std.proofs.Common.{◌≡◌, ℕ, zero, suc, ◌+◌, ◌-◌, Bool, true, false, ◌⊎◌, List, length, refl, inl, inr, arith}
 use native.Mathlib.Decide.{dec_le, dec_lt, ℕ_discrete}
 use Rattle.theory.specs.Meaning.{Meaning}
-use Rattle.judge.specs.Formulas.{Formula, truth, falsity, atom, negated-atom, both, either, tomorrow, weak_tomorrow, until, release}
+use Rattle.judge.specs.Formulas.{Formula, truth, falsity, atom, negated_atom, both, either, tomorrow, weak_tomorrow, until, release}
 use Rattle.judge.specs.Histories.{visit, after}
 use Rattle.judge.specs.Holding.{Holds}
 use Rattle.judge.proofs.Unfolding.{until_now, until_later, until_split, release_now, release_later, release_holds, release_split}
@@ -60,7 +60,7 @@ pub holds? : (m : Meaning) (σ : List ℕ) (φ : Formula) (i : ℕ) → Dec (Hol
 holds? m σ truth i = yes tt
 holds? m σ falsity i = no (λ z. z)
 holds? m σ (atom a) i = dec_is (m.fact a (visit σ i) (after σ i)) true
-holds? m σ (negated-atom a) i = dec_is (m.fact a (visit σ i) (after σ i)) false
+holds? m σ (negated_atom a) i = dec_is (m.fact a (visit σ i) (after σ i)) false
 holds? m σ (both α β) i = dec_× (holds? m σ α i) (holds? m σ β i)
 holds? m σ (either α β) i = dec_⊎ (holds? m σ α i) (holds? m σ β i)
 holds? m σ (tomorrow α) i = dec_× (dec_lt (suc i) (length σ)) (holds? m σ α (suc i))

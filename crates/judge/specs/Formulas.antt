@@ -7,7 +7,7 @@ use Rattle.ltlf.specs.declared.node.Node.TheVariants.{True, False, Atom, NotAtom
 -- A formula in negation normal form: only atoms are negated.
 pub data Formula : Type 0 where
   truth falsity : Formula
-  atom negated-atom : ℕ → Formula
+  atom negated_atom : ℕ → Formula
   both either : Formula → Formula → Formula
   tomorrow weak_tomorrow : Formula → Formula
   until release : Formula → Formula → Formula
@@ -17,7 +17,7 @@ abbrev pub formed : (ℕ → Formula) → Node → Formula
 formed at True = truth
 formed at False = falsity
 formed at (Atom a) = atom a
-formed at (NotAtom a) = negated-atom a
+formed at (NotAtom a) = negated_atom a
 formed at (And f g) = both (at f) (at g)
 formed at (Or f g) = either (at f) (at g)
 formed at (Tomorrow f) = tomorrow (at f)

@@ -2,7 +2,7 @@
 use Rattle.std.specs.Prelude.{◌≡◌, ℕ, suc, ◌<◌, ◌≤◌, true, false, ◌⊎◌, List, length}
 use Rattle.theory.specs.Meaning.{Meaning}
 use Rattle.ltlf.specs.Contents.{Contents}
-use Rattle.judge.specs.Formulas.{Formula, truth, falsity, atom, negated-atom, both, either, tomorrow, weak_tomorrow, until, release, formula, Among}
+use Rattle.judge.specs.Formulas.{Formula, truth, falsity, atom, negated_atom, both, either, tomorrow, weak_tomorrow, until, release, formula, Among}
 use Rattle.judge.specs.Histories.{visit, after}
 
 -- The formula holds at visit i of the history σ, where i is below the number of visits.
@@ -11,7 +11,7 @@ abbrev pub Holds : Meaning → (σ : List ℕ) → (i : ℕ) → Formula → Typ
 Holds m σ i truth = Unit {0}
 Holds m σ i falsity = ⊥
 Holds m σ i (atom a) = m.fact a (visit σ i) (after σ i) ≡ true
-Holds m σ i (negated-atom a) = m.fact a (visit σ i) (after σ i) ≡ false
+Holds m σ i (negated_atom a) = m.fact a (visit σ i) (after σ i) ≡ false
 Holds m σ i (both α β) = Holds m σ i α × Holds m σ i β
 Holds m σ i (either α β) = Holds m σ i α ⊎ Holds m σ i β
 Holds m σ i (tomorrow α) = (suc i < length σ) × Holds m σ (suc i) α

@@ -22,7 +22,7 @@ use Rattle.rule_meaning.proofs.Moments.{Until, Release, Meant, reworded, negated
 abbrev pub tree_formula : Tree → Formula
 tree_formula (value true) = judge.truth
 tree_formula (value false) = judge.falsity
-tree_formula (literal true a) = judge.negated-atom a
+tree_formula (literal true a) = judge.negated_atom a
 tree_formula (literal false a) = judge.atom a
 tree_formula (over one.Tomorrow t) = judge.tomorrow (tree_formula t)
 tree_formula (over one.WeakTomorrow t) = judge.weak_tomorrow (tree_formula t)
