@@ -84,12 +84,18 @@ pub fn read_formula<'a>(draft: &mut Draft, text: &'a [u8]) -> Option<Parsed<'a>>
     formula(draft, text, false, 32)
 }
 
-/// Reading inverts writing, what is read was written, a text writes one formula only, and what was read stands in the draft with its negations pushed down.
+/// Reading inverts writing, what is read was written, and what was read stands in the draft with its negations pushed down.
 pub fn formula_law() -> u8
     ensures reads { ReadsWritten }
     ensures written { ReadIsWritten }
-    ensures once { WrittenOnce }
     ensures stands { BuiltStands }
+{
+    0
+}
+
+/// A text writes one formula only.
+pub fn text_writes_one_formula() -> u8
+    ensures { WrittenOnce }
 {
     0
 }

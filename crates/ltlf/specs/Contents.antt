@@ -95,6 +95,10 @@ pub record Proper (b : Contents) : Type 0 where
   pub were_put : (i : ℕ) → i < length b.rules → slice_index b.rules i < length b.nodes
   pub apart : (i j : ℕ) → i < j → j < length b.rules → slice_index b.rules i ≢ slice_index b.rules j
 
--- the contents of every book are proper, with at most 4,096 codes and 32 atoms
+-- the contents of every book are proper
 abbrev pub BooksAreProper : Type 0
-BooksAreProper = (b : Book) → Proper (book_contents b) × ((book_contents b).codes ≤ 4096) × ((book_contents b).atoms ≤ 32)
+BooksAreProper = (b : Book) → Proper (book_contents b)
+
+-- every book has at most 4,096 codes and 32 atoms
+abbrev pub BooksAreSmall : Type 0
+BooksAreSmall = (b : Book) → ((book_contents b).codes ≤ 4096) × ((book_contents b).atoms ≤ 32)

@@ -13,4 +13,4 @@ mod read;
 pub use book::Book;
 pub use draft::Draft;
 pub use node::Node;
-pub use read::books_are_proper;
+pub use read::{books_are_proper, books_are_small};

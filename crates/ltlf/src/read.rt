@@ -1,6 +1,6 @@
 // The calls of a book.
 ghost use Rattle.std.specs.Prelude.{◌≡◌, length};
-ghost use Rattle.ltlf.specs.Contents.{book_contents, node_answer, rule_at, BooksAreProper};
+ghost use Rattle.ltlf.specs.Contents.{book_contents, node_answer, rule_at, BooksAreProper, BooksAreSmall};
 
 use super::book::Book;
 use super::node::Node;
@@ -65,6 +65,13 @@ impl Book {
 /// Every book is proper.
 pub fn books_are_proper() -> u8
     ensures { BooksAreProper }
+{
+    0
+}
+
+/// Every book has at most 4,096 codes and 32 atoms.
+pub fn books_are_small() -> u8
+    ensures { BooksAreSmall }
 {
     0
 }

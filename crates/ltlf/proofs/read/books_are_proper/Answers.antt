@@ -1,5 +1,5 @@
-use Rattle.ltlf.proofs.Books.{book_proper, book_few_codes, book_few_atoms}
+use Rattle.ltlf.proofs.Books.{book_proper}
 use Rattle.ltlf.proofs.read.books_are_proper.Goals as goal
 
 pub returns : goal.returns
-returns c = λ b. (book_proper b, book_few_codes b, book_few_atoms b)
+returns c = book_proper
