@@ -43,7 +43,7 @@ def own_names():
             if "goal." in line or re.match(r"\s*(let|use|--|unfolding|elim|λ)\b", line):
                 continue
             m = DEFINED.match(line)
-            if m and "-" in m.group(1) and m.group(1) not in KEPT:
+            if m and m.group(1) not in KEPT and ("-" in m.group(1) or re.match("[A-Z].*_", m.group(1))):
                 names.add(m.group(1))
             # several constructors of one type
             m = re.match(rf"\s+([A-Za-z][{WORD}]*(?: [A-Za-z][{WORD}]*)+) : ", line)
@@ -56,7 +56,7 @@ def respelled(name):
     if name in SPECIAL:
         return SPECIAL[name]
     if name[0].isupper():
-        return "".join(part[0].upper() + part[1:] for part in name.split("-"))
+        return "".join(part[0].upper() + part[1:] for part in re.split("[-_]", name))
     return name.replace("-", "_")
 
 
@@ -64,6 +64,10 @@ def turn(text, table):
     def new(m):
         word = m.group(0)
         if word not in table:
+            return word
+        line = text[text.rfind("\n", 0, m.start()) + 1:m.start()]
+        # words of a comment, but for names in code spans
+        if re.search(r"(^|\s)(--|//+)\s", line) and line.count("`") % 2 == 0:
             return word
         before = text[max(0, m.start() - 6):m.start()]
         # a step of a function's record, or a goal, is named by the check

@@ -10,7 +10,7 @@ use Rattle.ltlf.specs.declared.node.Node.{Node}
 use Rattle.ltlf.specs.declared.node.Node.TheVariants.{True, False, Atom, NotAtom, And, Or, Tomorrow, WeakTomorrow, Until, Release}
 use Rattle.judge.specs.Formulas.{node_at, Among}
 use Rattle.tableau.specs.Labels.{Label, ◌∈◌, has, adding}
-use Rattle.tableau.specs.Expansion.{Choice, Side, one, other, parts, handed_on, Goes_on, Admitted, Sound, IsNextLabel}
+use Rattle.tableau.specs.Expansion.{Choice, Side, one, other, parts, handed_on, GoesOn, Admitted, Sound, IsNextLabel}
 use Rattle.tableau.specs.Masks.{expanded_below, next_of}
 use Rattle.tableau.specs.Positions.{In}
 use Rattle.tableau.specs.Search.{goes_on, admitted, sides, gather, branches, next_labels}
@@ -19,7 +19,7 @@ use Rattle.tableau.proofs.Steps.{part_before}
 use Rattle.tableau.proofs.Masks.{has?, adding_has, zero_has, same_members, expansion_computed, next_ok, past_node, handed_inside}
 use Rattle.tableau.proofs.Tests.{no_way, true_or_not, not_ok, gather_ok, when_ok}
 
-goes_on_ok : (n : Next) → (goes_on n ≡ true) ↔ Goes_on n
+goes_on_ok : (n : Next) → (goes_on n ≡ true) ↔ GoesOn n
 goes_on_ok (Code c) = ((λ e. tt), (λ e. refl))
 goes_on_ok Last = ((λ e. no_way e), (λ e. absurd e))
 

@@ -5,7 +5,7 @@ use native.Mathlib.Decide.{dec_lt, dec_le}
 use Rattle.theory.specs.declared.next.Next.TheVariants.{Code, Last}
 use Rattle.judge.specs.Histories.{visit, after, first}
 use Rattle.tableau.specs.Labels.{◌∈◌}
-use Rattle.tableau.specs.Expansion.{Goes_on, Sound}
+use Rattle.tableau.specs.Expansion.{GoesOn, Sound}
 use Rattle.tableau.specs.Positions.{Position, Question, Starts, Step, Ends, Path, stay, go, codes_on, Reached, LeastEnd, Visited, last_place}
 use Rattle.tableau.specs.Continuations.{AllCodes, Begins, Continuation, Possible, WellPosed, Leads}
 use Rattle.tableau.specs.Masks.{next_of}
@@ -103,7 +103,7 @@ module _ (q : Question) (posed : WellPosed q) (σ : List ℕ) where
       let a : after σ i ≡ Last = ap first d.2 in
       step_sound q.meaning q.book posed.proper σ i d.0 en.choice s.label
       (rw (d.1, a) en.sound)
-      (λ l. absurd (subst Goes_on a (inside_code σ i l)))
+      (λ l. absurd (subst GoesOn a (inside_code σ i l)))
   path_holds i {s = s} (go {s' = s'} st w) en e =
       let d = drop_is σ i s.code (codes_on w) e in
       let a : after σ i ≡ Code s'.code = ap first d.2 ∙ codes_first q w in

@@ -13,17 +13,17 @@ use Rattle.judge.proofs.Unfolding.{until_now, until_later, until_split, release_
 use Rattle.judge.proofs.Deciding.{holds?}
 use Rattle.judge.proofs.Trees.{operands_before, formula_is}
 use Rattle.tableau.specs.Labels.{Label, ◌∈◌}
-use Rattle.tableau.specs.Expansion.{Choice, Side, one, other, parts, handed_on, Expansion, member, part, Goes_on, Admitted, Sound, HandedOn}
+use Rattle.tableau.specs.Expansion.{Choice, Side, one, other, parts, handed_on, Expansion, member, part, GoesOn, Admitted, Sound, HandedOn}
 use Rattle.tableau.specs.Theorems.{AllHold, StepIsSound, StepIsComplete, ExpansionIsLeast}
 
 -- what comes after a visit is a code exactly if the visit is not the last
-code_inside : (σ : List ℕ) (i : ℕ) → Goes_on (after σ i) → suc i < length σ
+code_inside : (σ : List ℕ) (i : ℕ) → GoesOn (after σ i) → suc i < length σ
 code_inside [] i h = absurd h
 code_inside (c ∷ []) zero h = absurd h
 code_inside (c ∷ d ∷ σ) zero h = omega arith
 code_inside (c ∷ σ) (suc i) h = let k = code_inside σ i h in omega arith
 
-pub inside_code : (σ : List ℕ) (i : ℕ) → suc i < length σ → Goes_on (after σ i)
+pub inside_code : (σ : List ℕ) (i : ℕ) → suc i < length σ → GoesOn (after σ i)
 inside_code [] i h = absurd (omega arith)
 inside_code (c ∷ []) zero h = absurd (omega arith)
 inside_code (c ∷ d ∷ σ) zero h = tt

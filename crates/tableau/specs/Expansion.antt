@@ -55,9 +55,9 @@ pub data Expansion (b : Contents) (κ : Choice) (L : Label) : ℕ → Type 0 whe
   part : {f g : ℕ} → Expansion b κ L f → Among g (parts (node_at b f) (κ f)) → Expansion b κ L g
 
 -- a code comes next: the visit is not the last
-abbrev pub Goes_on : Next → Type 0
-Goes_on (Code c) = Unit {0}
-Goes_on Last = ⊥
+abbrev pub GoesOn : Next → Type 0
+GoesOn (Code c) = Unit {0}
+GoesOn Last = ⊥
 
 -- What a member asks of a code and of what comes next: no false, its atom or negated atom holds there,
 -- and an X or a carried U asks that a visit follows; a carried R does not, it is weak.
@@ -68,10 +68,10 @@ Admitted m c n (Atom a) s = m.fact a c n ≡ true
 Admitted m c n (NotAtom a) s = m.fact a c n ≡ false
 Admitted m c n (And f g) s = Unit {0}
 Admitted m c n (Or f g) s = Unit {0}
-Admitted m c n (Tomorrow f) s = Goes_on n
+Admitted m c n (Tomorrow f) s = GoesOn n
 Admitted m c n (WeakTomorrow f) s = Unit {0}
 Admitted m c n (Until f g) one = Unit {0}
-Admitted m c n (Until f g) other = Goes_on n
+Admitted m c n (Until f g) other = GoesOn n
 Admitted m c n (Release f g) s = Unit {0}
 
 -- The choice's expansion is sound at a code and what comes next when each of its members is admitted there.

@@ -160,7 +160,7 @@ Says q rows counted (can n r) = (length counted ≤ rows) × Shortest q n × (r 
 Says q rows counted (cannot r) = (length counted ≤ rows) × Impossible q × (r ≡ length counted)
 Says q rows counted (short r) = (rows < length counted) × (r ≡ rows)
 
--- For every well_posed question and every number of rows, the answer is the one that says what is so.
+-- For every well-posed question and every number of rows, the answer is the one that says what is so.
 abbrev pub AnswerIsRight : Type 0
 AnswerIsRight =
     (q : Question) → WellPosed q → (rows : ℕ) (counted : List Position) → Rows q counted

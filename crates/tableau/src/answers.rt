@@ -8,7 +8,7 @@ pub fn counted_are_finite() -> u8
     0
 }
 
-/// The computed answer is right for every well_posed question and every number of rows.
+/// The computed answer is right for every well-posed question and every number of rows.
 pub fn answer_is_right() -> u8
     ensures { AnswerIsRight }
 {

@@ -12,10 +12,10 @@ use Rattle.ltlf.specs.declared.node.Node.TheVariants.{True, False, Atom, NotAtom
 use Rattle.judge.specs.Formulas.{node_at}
 use Rattle.judge.specs.Marks.{is_last}
 use Rattle.tableau.specs.Labels.{Label}
-use Rattle.tableau.specs.Expansion.{Side, one, other, Choice, Goes_on}
+use Rattle.tableau.specs.Expansion.{Side, one, other, Choice, GoesOn}
 use Rattle.viability.specs.Moments.{Moment, Admits, SoundAt, SomeSound, HandsOn, Shows, moment}
 
-goes : (n n' : Next) → is_last n ≡ is_last n' → Goes_on n → Goes_on n'
+goes : (n n' : Next) → is_last n ≡ is_last n' → GoesOn n → GoesOn n'
 goes (Code c) (Code c') e h = tt
 goes (Code c) Last e h = both_ways (is_last (Code c)) refl e
 goes Last n' e h = absurd h
