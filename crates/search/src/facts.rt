@@ -6,7 +6,7 @@ ghost use Rattle.theory.specs.Meaning.{next_exists};
 use theory::{Next, Theory};
 
 /// The mask with one more atom.
-fn with_atom(mask: u32, atom: u8) -> u32
+fn with_atom(mask: u64, atom: u8) -> u64
     requires { atom < 32 }
     ensures { result ≡ bit_or mask (2 ^ atom) }
 {
@@ -25,7 +25,7 @@ fn fact<T: Theory>(theory: &T, atom: u8, code: u16, next: Next) -> bool
 }
 
 /// The atoms that hold at `code` when `next` comes next, of the first `atoms`.
-pub(crate) fn truth_at<T: Theory>(theory: &T, atoms: u8, code: u16, next: Next) -> u32
+pub(crate) fn truth_at<T: Theory>(theory: &T, atoms: u8, code: u16, next: Next) -> u64
     requires { (atoms ≤ 32) × ((atoms ≡ (T.Theory.meaning theory.now).atoms) × ((code < (T.Theory.meaning theory.now).codes) × (next_exists (T.Theory.meaning theory.now).codes next ≡ true))) }
     ensures { Shown (T.Theory.meaning theory.now) code next result atoms }
 {

@@ -12,12 +12,13 @@ use crate::layers::enter;
 use intern::Cell;
 use ltlf::Book;
 use successors::{NextLabel, next_labels};
+use viability::Visit;
 
 /// Which atoms hold, and how many next labels there are then; `set` says whether it stands for anything.
 #[derive(Clone, Copy, Drop)]
 pub(crate) struct Pattern {
     pub(crate) set: bool,
-    pub(crate) truth: u32,
+    pub(crate) truth: u64,
     pub(crate) count: usize,
 }
 
@@ -27,7 +28,7 @@ pub(crate) struct Pattern {
 pub(crate) fn labels_for(
     book: &Book,
     label: u64,
-    truth: u32,
+    truth: u64,
     cells: &mut [Cell<NextLabel>],
     known: Pattern,
 ) -> Option<Pattern>
@@ -37,7 +38,12 @@ pub(crate) fn labels_for(
     if known.set && known.truth == truth {
         return Some(known);
     }
-    match next_labels(book, label, truth, false, cells) {
+    let visit = Visit {
+        book,
+        truth,
+        last: false,
+    };
+    match next_labels(&visit, label, cells) {
         Some(count) => Some(Pattern {
             set: true,
             truth,

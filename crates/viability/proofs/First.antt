@@ -1,5 +1,5 @@
 -- The first choice that is tried is sound.
-use Rattle.std.proofs.Common.{◌≡◌, ℕ, Bool, true, false, Decides, sym, refl, ◌∙◌, subst, inl, inr}
+use Rattle.std.proofs.Common.{◌≡◌, ℕ, Bool, true, false, Decides, refl, subst, inl, inr}
 use mathlib.Core.Path.{subst⁻¹}
 use lib.Bits.{bit_or}
 use Rattle.std.proofs.lemmas.Bool.{false≢true}
@@ -9,8 +9,8 @@ use Rattle.tableau.specs.Labels.{Label, ◌∈◌}
 use Rattle.tableau.specs.Expansion.{Side, parts}
 use Rattle.tableau.proofs.Masks.{zero_has}
 use Rattle.viability.specs.declared.offer.Offer.{Offer}
-use Rattle.viability.specs.Moments.{Moment}
-use Rattle.viability.specs.Offers.{Inside, Offered}
+use Rattle.viability.specs.Moments.{Moment, Admits}
+use Rattle.viability.specs.Offers.{Inside, OffersSide}
 use Rattle.viability.specs.Viable.{Fits, known_part, Tells, DecidesSound}
 use Rattle.viability.proofs.Bits.{in_or, inside_parts}
 
@@ -18,15 +18,15 @@ unflipped : (k flips : ℕ) (f : Bool) → flips ≡ 0 → Decides f (k ∈ flip
 unflipped k flips true e d = absurd (zero_has k (subst (λ (x : ℕ). k ∈ x) e (d.0 refl)))
 unflipped k flips false e d = refl
 
-module _ (w : Moment) (b : Contents) (V k flips S : ℕ) (f : Bool) (s : Side) (o : Offer) (none : flips ≡ 0) (d : Decides f (k ∈ flips))
-    (fit : f ≡ false → k ∈ V → Fits w b V k s) (ins : Inside S V) (m : k ∈ S) (is : Offered w k (node_at b k) s o) where
+module _ (w : Moment) (b : Contents) (V k flips S : ℕ) (f : Bool) (s : Side) (none : flips ≡ 0) (d : Decides f (k ∈ flips))
+    (fit : f ≡ false → k ∈ V → Fits w b V k s) (ins : Inside S V) (m : k ∈ S) where
   -- with no flips the side fits, so that it is admitted
-  pub first_admitted : o.admitted ≡ false → ⊥
-  first_admitted wrong = false≢true (sym wrong ∙ is.admitted_is.1 (fit (unflipped k flips f none d) (ins k m)).0)
+  pub first_admitted : ¬ (¬ (Admits w (node_at b k) s))
+  first_admitted wrong = wrong (fit (unflipped k flips f none d) (ins k m)).0
 
   -- and its parts are viable
-  pub first_inside : Inside (bit_or S o.parts) V
-  first_inside g h =
+  pub first_inside : (o : Offer) → OffersSide k (node_at b k) s o → Inside (bit_or S o.parts) V
+  first_inside o is g h =
       let ft = fit (unflipped k flips f none d) (ins k m) in
       elim (in_or S o.parts g h) [ inl x ↦ ins g x | inr x ↦ (inside_parts (parts (node_at b k) s) o.parts V is.parts_are).1 ft.1 g x ]
 
