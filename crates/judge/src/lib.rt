@@ -9,4 +9,4 @@ mod marks;
 mod pass;
 
 pub use judgement::Judgement;
-pub use judging::{histories_meet_or_fail, judge};
+pub use judging::{all_codes, histories_meet_or_fail, judge, same_counts};

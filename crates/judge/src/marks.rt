@@ -4,9 +4,11 @@ ghost use Rattle.judge.specs.Marks.{marked};
 
 /// Whether the mask marks a number.
 pub(crate) fn has(mask: u64, number: u8) -> bool
-    requires { number < 64 }
     ensures { result ≡ marked mask number }
 {
+    if number >= 64 {
+        return false;
+    }
     (mask >> number) & 1 == 1
 }
 
