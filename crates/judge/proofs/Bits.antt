@@ -1,13 +1,10 @@
 -- What the bits of a mask mark.
-use Rattle.std.proofs.Common.{◌≡◌, ℕ, ◌+◌, ◌-◌, ◌/◌, ◌%◌, ◌^◌, ◌<◌, ◌≤◌, max, true, false, eqb, sym, ap, ◌∙◌, ⊎_elim, one-mul, lt_of_lt_of_le, pow_mono, arith}
+use Rattle.std.proofs.Common.{◌≡◌, ℕ, ◌+◌, ◌-◌, ◌/◌, ◌%◌, ◌^◌, ◌<◌, max, true, false, eqb, sym, ap, ◌∙◌, ⊎_elim, one-mul, arith}
 use native.Mathlib.Nat.{div-eq_of_lt, zero-div}
-use lib.Bits.{bit_and, bit_or, or_step, and_mask, or_shr}
+use lib.Bits.{bit_or, or_step, or_shr}
 use Rattle.std.proofs.lemmas.Nat.{pow-add, shl-shr, pow_below, mod-mul-add}
 use Rattle.std.proofs.lemmas.Bool.{cases_order, eq-eqb}
 use Rattle.judge.specs.Marks.{marked}
-
-pub and_one : (n : ℕ) → bit_and n 1 ≡ n % 2
-and_one n = and_mask n 1
 
 or_at_bit : (a b i : ℕ) → bit_or a b / 2 ^ i % 2 ≡ max (a / 2 ^ i % 2) (b / 2 ^ i % 2)
 or_at_bit a b i =
@@ -47,9 +44,3 @@ marked_other mask k i ne =
 -- the empty mask marks nothing
 pub marked_none : (i : ℕ) → marked 0 i ≡ false
 marked_none i = ap (λ (x : ℕ). eqb (x % 2) 1) (zero-div (2 ^ i))
-
--- a mask below 2 ^ n marks no number from n on
-pub marked_past : (n mask i : ℕ) → mask < 2 ^ n → n ≤ i → false ≡ marked mask i
-marked_past n mask i lt le =
-    let none : mask / 2 ^ i ≡ 0 = div-eq_of_lt (lt_of_lt_of_le lt (pow_mono le)) in
-    ap (λ (x : ℕ). eqb (x % 2) 1) (sym none)

@@ -1,5 +1,6 @@
 -- How the judge computes: a mask marks the numbers of the formulas that hold at a visit, from those that hold at the visit after.
-use Rattle.std.specs.Prelude.{◌≡◌, ℕ, suc, ◌/◌, ◌%◌, ◌^◌, ◌<◌, Bool, true, false, not, ◌&&◌, ◌||◌, List, length, Decides, ◌==◌}
+use Rattle.std.specs.Prelude.{◌≡◌, ℕ, suc, ◌<◌, Bool, true, false, not, ◌&&◌, ◌||◌, List, length, Decides}
+use Rattle.masks.specs.Masks.{has}
 use Rattle.theory.specs.Meaning.{Meaning}
 use Rattle.theory.specs.declared.next.Next.{Next}
 use Rattle.theory.specs.declared.next.Next.TheVariants.{Code, Last}
@@ -12,7 +13,7 @@ use Rattle.judge.specs.Holding.{Holds}
 
 -- whether the mask marks the number f: its bit f is 1
 abbrev pub marked : (mask f : ℕ) → Bool
-marked mask f = mask / 2 ^ f % 2 == 1
+marked mask f = has mask f
 
 -- whether nothing comes next
 abbrev pub is_last : Next → Bool

@@ -6,9 +6,9 @@ ghost use Rattle.judge.specs.Judging.{all_pass, all_codes, same_counts, judge_ch
 ghost use Rattle.judge.specs.Marks.{marked, Marks};
 
 use super::judgement::Judgement;
-use super::marks::has;
 use super::pass::pass;
 use ltlf::Book;
+use masks::contains;
 use refusal::Refusal;
 use theory::{Next, Theory};
 
@@ -62,7 +62,7 @@ fn first_marks<T: Theory>(theory: &T, book: &Book, visits: &[u16]) -> u64
 fn rules_marked(book: &Book, marks: u64) -> bool
     ensures { result ≡ all_pass (marked marks) (book_contents book.now).rules }
 {
-    book.rules().iter().all(|rule| has(marks, *rule))
+    book.rules().iter().all(|rule| contains(marks, *rule))
 }
 
 /// Decides whether `visits`, as a whole history, meets the book: whether every rule holds at the first visit.

@@ -6,8 +6,8 @@ ghost use Rattle.ltlf.specs.Contents.{book_contents};
 ghost use Rattle.judge.specs.Judging.{same_counts};
 ghost use Rattle.judge.specs.Marks.{is_last, node_held, Passed};
 
-use super::marks::{has, with};
 use ltlf::{Book, Node};
+use masks::{contains, with};
 use theory::{Next, Theory};
 
 /// Whether nothing comes next.
@@ -39,12 +39,14 @@ fn node_holds<T: Theory>(
         Node::False => false,
         Node::Atom(a) => theory.holds(a, code, next).unwrap_or(false),
         Node::NotAtom(a) => !theory.holds(a, code, next).unwrap_or(false),
-        Node::And(f, g) => has(here, f) && has(here, g),
-        Node::Or(f, g) => has(here, f) || has(here, g),
-        Node::Tomorrow(f) => !last && has(later, f),
-        Node::WeakTomorrow(f) => last || has(later, f),
-        Node::Until(f, g) => has(here, g) || has(here, f) && !last && has(later, number),
-        Node::Release(f, g) => has(here, g) && (has(here, f) || last || has(later, number)),
+        Node::And(f, g) => contains(here, f) && contains(here, g),
+        Node::Or(f, g) => contains(here, f) || contains(here, g),
+        Node::Tomorrow(f) => !last && contains(later, f),
+        Node::WeakTomorrow(f) => last || contains(later, f),
+        Node::Until(f, g) => contains(here, g)
+            || contains(here, f) && !last && contains(later, number),
+        Node::Release(f, g) => contains(here, g)
+            && (contains(here, f) || last || contains(later, number)),
     }
 }
 

@@ -1,4 +1,6 @@
 use Rattle.std.proofs.Common.{◌≡◌, ℕ, ◌+◌, ◌∙◌, subst, arith, rules}
+use Rattle.masks.specs.Masks.{including}
+use Rattle.masks.proofs.Bits.{including_is}
 use Rattle.ltlf.specs.Contents.{book_contents}
 use Rattle.ltlf.specs.declared.node.Node.TheVariants.{True}
 use Rattle.ltlf.proofs.Books.{book_proper}
@@ -17,9 +19,6 @@ node_holds-requires g c =
       c.requires.exist,
     )
 
-pub with-here-requires : goal.with-here-requires
-with-here-requires g c = omega (arith, (book_proper c.args.book.now).few)
-
 pub loop-number-preserved : goal.loop-number-preserved
 loop-number-preserved g c = λ σ i within is-code is-next past.
     let m = g.T.Theory.meaning c.args.theory.now in
@@ -32,7 +31,9 @@ loop-number-preserved g c = λ σ i within is-code is-next past.
     elim c.if-node_holds.branch [
       | then-node_holds w ↦
           passed_with m b σ i pr within at.here c.args.later at.number c.args.code c.args.next c.unwrap_or-node.result past is-code is-next is-node
-          (omega arith) so-far (search rules) c.if-node_holds.here (search rules)
+          (omega arith) so-far (search rules) c.if-node_holds.here
+          (let is : c.if-node_holds.here ≡ including at.here at.number = search rules in
+          is ∙ including_is at.here at.number (omega (arith, pr.few)))
       | else-node_holds w ↦
           subst (λ (x : ℕ). PassedTo m b σ i x (at.number + 1)) (search rules)
           (passed_without m b σ i pr within at.here c.args.later at.number c.args.code c.args.next c.unwrap_or-node.result past is-code is-next is-node
