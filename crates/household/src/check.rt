@@ -4,6 +4,7 @@ ghost use Rattle.ltlf.specs.Contents.{book_contents};
 ghost use Rattle.record.specs.Calls.{record_model};
 ghost use Rattle.household.specs.Calls.{counts_agree};
 
+use judge::same_counts;
 use ltlf::Book;
 use record::Record;
 use theory::Theory;
@@ -14,6 +15,5 @@ pub(crate) fn counts_agree<T: Theory>(record: &Record, book: &Book, theory: &T) 
 {
     let on_book = record.code_count() == book.code_count()
         && record.atom_count() == book.atom_count();
-    on_book
-        && (book.code_count() == theory.code_count() && book.atom_count() == theory.atom_count())
+    on_book && same_counts(theory, book)
 }

@@ -1,13 +1,10 @@
 -- What the bits of a mask mark.
 use Rattle.std.proofs.Common.{◌≡◌, ℕ, ◌+◌, ◌-◌, ◌/◌, ◌%◌, ◌^◌, ◌<◌, max, true, false, eqb, sym, ap, ◌∙◌, ⊎_elim, one-mul, arith}
 use native.Mathlib.Nat.{div-eq_of_lt, zero-div}
-use lib.Bits.{bit_and, bit_or, or_step, and_mask, or_shr}
+use lib.Bits.{bit_or, or_step, or_shr}
 use Rattle.std.proofs.lemmas.Nat.{pow-add, shl-shr, pow_below, mod-mul-add}
 use Rattle.std.proofs.lemmas.Bool.{cases_order, eq-eqb}
 use Rattle.judge.specs.Marks.{marked}
-
-pub and_one : (n : ℕ) → bit_and n 1 ≡ n % 2
-and_one n = and_mask n 1
 
 or_at_bit : (a b i : ℕ) → bit_or a b / 2 ^ i % 2 ≡ max (a / 2 ^ i % 2) (b / 2 ^ i % 2)
 or_at_bit a b i =

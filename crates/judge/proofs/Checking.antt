@@ -1,6 +1,6 @@
 -- What the check of a history says.
 use Rattle.std.proofs.Common.{◌≡◌, ℕ, suc, ◌<◌, ◌≤◌, true, ltb, List, length, Ok, sym, ap, ◌∙◌, ⊎_elim, arith}
-use Rattle.std.proofs.lemmas.Bool.{cases_lt, ltb-true, lt-ltb}
+use Rattle.std.proofs.lemmas.Bool.{cases_lt, ltb-true, lt-ltb, eqb-true, and_parts}
 use Rattle.std.proofs.lemmas.Bool.Decides.{nat_tests}
 use Rattle.theory.specs.Meaning.{Meaning, next_exists}
 use Rattle.theory.specs.declared.next.Next.{Next}
@@ -9,7 +9,7 @@ use Rattle.ltlf.specs.Nodes.{known}
 use Rattle.ltlf.specs.declared.node.Node.{Node}
 use Rattle.judge.specs.Formulas.{node_at}
 use Rattle.judge.specs.Histories.{visit, after}
-use Rattle.judge.specs.Judging.{all_codes, judge_check}
+use Rattle.judge.specs.Judging.{all_codes, same_counts, judge_check}
 use Rattle.judge.proofs.Tests.{pass_at}
 use Rattle.judge.proofs.Histories.{after_code, after_last}
 
@@ -30,5 +30,11 @@ module _ (m : Meaning) (b : Contents) (σ : List ℕ) (passed : judge_check m b 
       (λ (last : length σ ≤ suc i). ap (next_exists m.codes) (is ∙ after_last σ i last))
       (cases_lt (suc i) (length σ))
 
-  pub node_known : Proper b → (f : ℕ) (node : Node) → f < length b.nodes → node ≡ node_at b f → known m.atoms f node ≡ true
-  node_known pr f node h is = ap (λ n. known m.atoms f n) is ∙ ap (λ a. known a f (node_at b f)) (sym parts.2) ∙ pr.before f h
+  pub same_checked : same_counts m b ≡ true
+  same_checked = grind (arith, nat_tests)
+
+pub node_known : (m : Meaning) (b : Contents) → same_counts m b ≡ true → Proper b → (f : ℕ) (node : Node) → f < length b.nodes → node ≡ node_at b f
+    → known m.atoms f node ≡ true
+node_known m b same pr f node h is =
+    let atoms : b.atoms ≡ m.atoms = eqb-true _ _ (and_parts _ _ same).1 in
+    ap (λ n. known m.atoms f n) is ∙ ap (λ a. known a f (node_at b f)) (sym atoms) ∙ pr.before f h

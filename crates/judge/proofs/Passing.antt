@@ -33,20 +33,20 @@ module _ (m : Meaning) (b : Contents) (σ : List ℕ) (i : ℕ) where
     (λ f h. same f (λ e. omega arith) ∙ above f (omega arith)),
   )
 
-  module _ (pr : Proper b) (within : i < length σ) (here later n : ℕ) (next : Next) (node : Node)
-      (past : suc i < length σ → Marks m b σ (suc i) later) (is-next : next ≡ after σ i) (is-node : node ≡ node_at b n)
-      (put : n < length b.nodes) (so_far : PassedTo m b σ i here n) where
+  module _ (pr : Proper b) (within : i < length σ) (here later n code : ℕ) (next : Next) (node : Node)
+      (past : suc i < length σ → Marks m b σ (suc i) later)
+      (is-code : visit σ i ≡ code) (is-next : after σ i ≡ next) (is-node : node ≡ node_at b n) (put : n < length b.nodes) (so_far : PassedTo m b σ i here n) where
     -- the test of the node of the number n decides whether its formula holds
-    tested : (held : Bool) → held ≡ node_held m (visit σ i) next here later n node → Decides held (Holds m σ i (formula b n))
+    tested : (held : Bool) → held ≡ node_held m code next here later n node → Decides held (Holds m σ i (formula b n))
     tested held is_held_lem =
-        let P : Next → Node → Type 0 = λ x y. held ≡ node_held m (visit σ i) x here later n y in
-        let is : held ≡ node_held m (visit σ i) (after σ i) here later n (node_at b n) =
-        subst (λ y. P (after σ i) y) is-node (subst (λ x. P x node) is-next is_held_lem) in
+        let P : ℕ → Next → Node → Type 0 = λ c x y. held ≡ node_held m c x here later n y in
+        let is : P (visit σ i) (after σ i) (node_at b n) =
+        subst (λ c. P c (after σ i) (node_at b n)) (sym is-code) (subst (λ x. P code x (node_at b n)) (sym is-next) (subst (λ y. P code next y) is-node is_held_lem)) in
         Decides-at _ _ is
         (held_decides σ i within m b pr here later n so_far.0 (λ q g le. past q g (omega arith)))
 
     -- it passes, and n is marked
-    pub passed_with : true ≡ node_held m (visit σ i) next here later n node → (here' : ℕ) → here' ≡ bit_or here (2 ^ n)
+    pub passed_with : true ≡ node_held m code next here later n node → (here' : ℕ) → here' ≡ bit_or here (2 ^ n)
         → PassedTo m b σ i here' (n + 1)
     passed_with held here' is =
         let holds : Holds m σ i (formula b n) = (tested true held).0 refl in
@@ -56,9 +56,14 @@ module _ (m : Meaning) (b : Contents) (σ : List ℕ) (i : ℕ) where
         so_far
 
     -- it does not pass, and n is not marked
-    pub passed_without : false ≡ node_held m (visit σ i) next here later n node → PassedTo m b σ i here (n + 1)
+    pub passed_without : false ≡ node_held m code next here later n node → PassedTo m b σ i here (n + 1)
     passed_without held =
         more here here n
         (λ f ne. refl)
         ((λ e. absurd (both_ways _ (so_far.1 n (omega arith)) e)), (λ w. absurd (false≢true ((tested false held).1 w))))
         so_far
+
+-- at every visit with that code and that next, the marks are right below the number n
+abbrev pub PassedAll : Meaning → Contents → (code : ℕ) → Next → (later here n : ℕ) → Type 0
+PassedAll m b c next later here n = (σ : List ℕ) (i : ℕ) → i < length σ → visit σ i ≡ c → after σ i ≡ next
+    → (suc i < length σ → Marks m b σ (suc i) later) → PassedTo m b σ i here n

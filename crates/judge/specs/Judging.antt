@@ -1,5 +1,6 @@
 -- What the judge answers.
-use Rattle.std.specs.Prelude.{◌≡◌, ℕ, Bool, true, cond, not, ◌&&◌, List, [], ◌∷◌, length, Ok, Err, Result, ◌==◌, nat_lt}
+use Rattle.std.specs.Prelude.{◌≡◌, ℕ, Bool, cond, not, ◌&&◌, List, length, Ok, Err, Result, ◌==◌, nat_lt}
+use Rattle.std.specs.List.{list_all}
 use Rattle.refusal.specs.declared.Refusal.{Refusal}
 use Rattle.refusal.specs.declared.Refusal.TheVariants.{NothingKept, CountsDiffer, BadVisitList}
 use Rattle.theory.specs.Meaning.{Meaning}
@@ -10,8 +11,7 @@ use Rattle.judge.specs.Holding.{Meets, Fails}
 
 -- whether every number of a list passes a test
 abbrev pub all_pass : (test : ℕ → Bool) → List ℕ → Bool
-all_pass test [] = true
-all_pass test (n ∷ ns) = test n && all_pass test ns
+all_pass test ns = list_all test ns
 
 -- whether every visit is one of `codes` codes
 abbrev pub all_codes : (codes : ℕ) → List ℕ → Bool

@@ -1,5 +1,6 @@
 -- How the judge computes: a mask marks the numbers of the formulas that hold at a visit, from those that hold at the visit after.
-use Rattle.std.specs.Prelude.{ℕ, ◌/◌, ◌%◌, ◌^◌, ◌<◌, Bool, true, false, not, ◌&&◌, ◌||◌, List, length, Decides, ◌==◌}
+use Rattle.std.specs.Prelude.{◌≡◌, ℕ, suc, ◌<◌, Bool, true, false, not, ◌&&◌, ◌||◌, List, length, Decides}
+use Rattle.masks.specs.Masks.{has}
 use Rattle.theory.specs.Meaning.{Meaning}
 use Rattle.theory.specs.declared.next.Next.{Next}
 use Rattle.theory.specs.declared.next.Next.TheVariants.{Code, Last}
@@ -7,11 +8,12 @@ use Rattle.ltlf.specs.declared.node.Node.{Node}
 use Rattle.ltlf.specs.declared.node.Node.TheVariants.{True, False, Atom, NotAtom, And, Or, Tomorrow, WeakTomorrow, Until, Release}
 use Rattle.ltlf.specs.Contents.{Contents}
 use Rattle.judge.specs.Formulas.{formula}
+use Rattle.judge.specs.Histories.{visit, after}
 use Rattle.judge.specs.Holding.{Holds}
 
 -- whether the mask marks the number f: its bit f is 1
 abbrev pub marked : (mask f : ℕ) → Bool
-marked mask f = mask / 2 ^ f % 2 == 1
+marked mask f = has mask f
 
 -- whether nothing comes next
 abbrev pub is_last : Next → Bool
@@ -38,3 +40,8 @@ MarksBelow m b σ i mask n = (f : ℕ) → f < n → Decides (marked mask f) (Ho
 -- the mask marks exactly the formulas of the book that hold at visit i
 abbrev pub Marks : Meaning → Contents → (σ : List ℕ) → (i mask : ℕ) → Type 0
 Marks m b σ i mask = MarksBelow m b σ i mask (length b.nodes)
+
+-- at a visit with that code and that next, the mask is right where the mask of the visit after is
+abbrev pub Passed : Meaning → Contents → (code : ℕ) → Next → (later mask : ℕ) → Type 0
+Passed m b c n later mask = (σ : List ℕ) (i : ℕ) → i < length σ → visit σ i ≡ c → after σ i ≡ n
+    → (suc i < length σ → Marks m b σ (suc i) later) → Marks m b σ i mask

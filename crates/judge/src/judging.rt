@@ -1,31 +1,26 @@
 // The judge: one pass for each visit, from the last to the first.
-ghost use Rattle.std.specs.Prelude.{◌≡◌, Ok, slice_index};
+ghost use Rattle.std.specs.Prelude.{◌≡◌, Ok};
 ghost use Rattle.ltlf.specs.Contents.{book_contents};
 ghost use Rattle.judge.specs.Holding.{MeetsOrFails};
 ghost use Rattle.judge.specs.Judging.{all_pass, all_codes, same_counts, judge_check, Judged};
 ghost use Rattle.judge.specs.Marks.{marked, Marks};
 
 use super::judgement::Judgement;
-use super::marks::has;
 use super::pass::pass;
 use ltlf::Book;
+use masks::contains;
 use refusal::Refusal;
-use theory::Theory;
+use theory::{Next, Theory};
 
 /// Whether every visit is one of `codes` codes.
-fn all_codes(codes: u16, visits: &[u16]) -> bool
+pub fn all_codes(codes: u16, visits: &[u16]) -> bool
     ensures { result ≡ all_codes codes visits.now }
 {
-    for code in visits {
-        if *code >= codes {
-            return false;
-        }
-    }
-    true
+    visits.iter().all(|code| *code < codes)
 }
 
 /// Whether theory and book have the same counts of codes and atoms.
-fn same_counts<T: Theory>(theory: &T, book: &Book) -> bool
+pub fn same_counts<T: Theory>(theory: &T, book: &Book) -> bool
     ensures { result ≡ same_counts (T.Theory.meaning theory.now) (book_contents book.now) }
 {
     book.code_count() == theory.code_count() && book.atom_count() == theory.atom_count()
@@ -37,7 +32,7 @@ fn same_counts<T: Theory>(theory: &T, book: &Book) -> bool
 fn check<T: Theory>(theory: &T, book: &Book, visits: &[u16]) -> Result<(), Refusal>
     ensures { result ≡ judge_check (T.Theory.meaning theory.now) (book_contents book.now) visits.now }
 {
-    if visits.len() == 0 {
+    if visits.is_empty() {
         return Err(Refusal::NothingKept);
     }
     if !same_counts(theory, book) {
@@ -55,32 +50,19 @@ fn first_marks<T: Theory>(theory: &T, book: &Book, visits: &[u16]) -> u64
     ensures { Marks (T.Theory.meaning theory.now) (book_contents book.now) visits.now 0 result }
 {
     let mut marks = 0;
-    for i in (0..visits.len()).rev() {
-        marks = pass(theory, book, visits, i, marks);
+    let mut next = Next::Last;
+    for code in visits.iter().rev() {
+        marks = pass(theory, book, *code, next, marks);
+        next = Next::Code(*code);
     }
     marks
-}
-
-/// The rule at a place of the order of first naming; past the last rule, formula 0.
-fn rule_at(book: &Book, place: u8) -> u8
-    ensures { result ≡ slice_index (book_contents book.now).rules place }
-{
-    match book.rule(place) {
-        Ok(number) => number,
-        Err(_) => 0,
-    }
 }
 
 /// Whether every rule is marked.
 fn rules_marked(book: &Book, marks: u64) -> bool
     ensures { result ≡ all_pass (marked marks) (book_contents book.now).rules }
 {
-    for place in 0..book.rule_count() {
-        if !has(marks, rule_at(book, place)) {
-            return false;
-        }
-    }
-    true
+    book.rules().iter().all(|rule| contains(marks, *rule))
 }
 
 /// Decides whether `visits`, as a whole history, meets the book: whether every rule holds at the first visit.
@@ -100,8 +82,6 @@ pub fn judge<T: Theory>(theory: &T, book: &Book, visits: &[u16]) -> Result<Judge
 }
 
 /// Every history meets a book or fails it, and none does both.
-pub fn histories_meet_or_fail() -> u8
+pub fn histories_meet_or_fail()
     ensures { MeetsOrFails }
-{
-    0
-}
+{}

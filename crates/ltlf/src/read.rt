@@ -48,6 +48,13 @@ impl Book {
         self.sealed.named
     }
 
+    /// The rules in the order in which they were first named.
+    pub fn rules(&self) -> &[u8]
+        ensures { result.now ≡ (book_contents self.now).rules }
+    {
+        &self.sealed.rules[..self.sealed.named as usize]
+    }
+
     /// The rule at a place of the order in which rules were first named.
     ///
     /// Errors: 2 where there is none.

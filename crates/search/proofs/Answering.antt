@@ -1,5 +1,5 @@
 -- What a search has found is the answer to the question.
-use Rattle.std.proofs.Common.{◌≡◌, ℕ, zero, suc, ◌+◌, ◌<◌, ◌≤◌, List, [], ◌∷◌, ◌++◌, length, get_or, drop, sym, refl, ap, ◌∙◌, subst, inl, inr, ⊎_elim, add-one, arith, length-append}
+use Rattle.std.proofs.Common.{◌≡◌, ℕ, zero, suc, ◌+◌, ◌<◌, ◌≤◌, List, [], ◌∷◌, ◌++◌, length, get_or, drop, Some, sym, refl, ap, ◌∙◌, subst, inl, inr, ⊎_elim, add-one, arith, length-append}
 use Rattle.std.proofs.lemmas.List.{get_or-map, length-map}
 use Rattle.std.proofs.lemmas.Bool.{cases_lt}
 use Rattle.intern.specs.declared.cell.Cell.{Cell}
@@ -18,7 +18,7 @@ use Rattle.search.specs.declared.layers.Found.TheVariants as found
 use Rattle.search.specs.declared.outcome.Outcome.TheVariants.{Can, Cannot, Short}
 use Rattle.search.specs.Rows.{position}
 use Rattle.search.specs.Trails.{came_from, trail, Backed}
-use Rattle.search.specs.Layers.{held, Listed, Apart, LedTo, Least, Within, Unended, Traced, Exactly, Searched}
+use Rattle.search.specs.Layers.{held, Listed, Apart, LedTo, Least, Within, Unended, Traced, Exactly, Outnumbered, Searched}
 use Rattle.search.specs.Outcomes.{outcome_of, positions, HistoryLeft}
 use Rattle.search.proofs.Bounds.{led_reached, reached_led}
 use Rattle.search.proofs.Entering.{row_read}
@@ -152,7 +152,7 @@ module _ (q : Question) where
   -- THE ANSWER
 
   module _ (posed : WellPosed q) (xs ys : List (Cell Row)) where
-    module _ (row count depth : ℕ) (x : Searched (Starts q) (Step q) (Ends q) xs ys (found.Can row count depth)) where
+    module _ (row count depth : ℕ) (x : Searched (Starts q) (Step q) (Ends q) xs ys (Some (found.Can row count depth))) where
       there : row < length ys
       there = omega (arith, x.0.room, x.2)
 
@@ -197,7 +197,7 @@ module _ (q : Question) where
             is ∙ ap (λ (n : ℕ). σ ++ drop n entry) (sym (add-one depth)),
           )
 
-    module _ (count : ℕ) (x : Searched (Starts q) (Step q) (Ends q) xs ys (found.Cannot count)) where
+    module _ (count : ℕ) (x : Searched (Starts q) (Step q) (Ends q) xs ys (Some (found.Cannot count))) where
       none : NoEnd q
       none e n r en = x.1 n e (reached_led q n e r) en
 
@@ -213,7 +213,7 @@ module _ (q : Question) where
           (answer_right q posed (length xs) (positions ys count) cannot_left (cannot count)).1 (omega arith, (none_is_none q posed).1 none, sym many) in
           ap outcome_of (sym is)
 
-    module _ (depth : ℕ) (x : Searched (Starts q) (Step q) (Ends q) xs ys (found.Short depth)) where
+    module _ (depth : ℕ) (x : Outnumbered (Starts q) (Step q) (Ends q) xs ys depth) where
       abbrev all_positions : List Position
       all_positions = positions ys (length ys)
 

@@ -4,7 +4,7 @@ use Rattle.std.proofs.lemmas.Bool.{cases_lt}
 use Rattle.intern.specs.declared.cell.Cell.{Cell}
 use Rattle.tableau.specs.Positions.{Position}
 use Rattle.search.specs.declared.row.Row.{Row}
-use Rattle.search.specs.declared.layers.Found.TheVariants.{Can, Cannot, Short}
+use Rattle.search.specs.declared.layers.Found.TheVariants.{Can, Cannot}
 use Rattle.search.specs.Rows.{position}
 use Rattle.search.specs.Layers.{held, Listed, Apart, IndexedRows, Grown, After, Came, Spread, FoundIn, LedTo, Within, Unended, Traced, Searched}
 use Rattle.search.proofs.Entering.{indexed_apart}
@@ -157,7 +157,7 @@ module _ (I : Position → Type 0) (S : Position → Position → Type 0) (E : P
   level_unended xs ys start filled depth v j q h r e = v.passed q (v.before j q h r) e
 
   pub level_can : (xs ys : List (Cell Row)) (start filled depth i : ℕ) → Level I S E xs ys start filled depth → FoundIn E ys start filled (Some i)
-      → Searched I S E xs ys (Can i filled depth)
+      → Searched I S E xs ys (Some (Can i filled depth))
   level_can xs ys start filled depth i v (lo, hi, e) = (
     record {
       room = v.room;
@@ -179,7 +179,7 @@ module _ (I : Position → Type 0) (S : Position → Position → Type 0) (E : P
   all_listed xs ys start filled depth h v (suc j) q (p, r, s) =
       v.expanded p q (listed_wider ys 0 filled 0 start p (omega arith) h (all_listed xs ys start filled depth h v j p r)) s
 
-  pub level_cannot : (xs ys : List (Cell Row)) (start filled depth : ℕ) → filled ≤ start → Level I S E xs ys start filled depth → Searched I S E xs ys (Cannot filled)
+  pub level_cannot : (xs ys : List (Cell Row)) (start filled depth : ℕ) → filled ≤ start → Level I S E xs ys start filled depth → Searched I S E xs ys (Some (Cannot filled))
   level_cannot xs ys start filled depth h v = (
     record {
       room = v.room;
@@ -192,7 +192,7 @@ module _ (I : Position → Type 0) (S : Position → Position → Type 0) (E : P
   )
 
   pub level_short : (xs ys zs : List (Cell Row)) (start filled depth : ℕ) → start < filled → Level I S E xs ys start filled depth → FoundIn E ys start filled None
-      → Spread (Came S ys start filled) (After S ys start filled) ys zs filled None → Searched I S E xs zs (Short (depth + 1))
+      → Spread (Came S ys start filled) (After S ys start filled) ys zs filled None → Searched I S E xs zs None
   level_short xs ys zs start filled depth lt v none (g, (q, a, absent)) =
       let e : length ys ≡ length zs = sym g.size in
       let new : (p : Position) → After S ys start filled p → LedTo I S (depth + 1) p =
@@ -202,38 +202,44 @@ module _ (I : Position → Type 0) (S : Position → Position → Type 0) (E : P
       let up : filled ≤ length ys = g.rises in
       let to : (p : Position) → Listed zs filled (length zs) p → Listed zs filled (length ys) p =
       λ p l. listed_wider zs filled (length zs) filled (length ys) p (omega arith) (omega (arith, e)) l in (
-        g.size ∙ v.size,
-        subst (Apart zs) e (indexed_apart zs (length ys) g.indexed),
-        (λ p l.
-            ⊎_elim
-            (λ old. let w = v.sound p (listed_kept zs ys 0 filled p (λ k d h. sym (g.kept k d h)) old) in (w.0, omega (arith, w.1), w.2))
-            (λ now'.
-            first_there xs ys start filled depth v p
-            (new p (listed_new (Came S ys start filled) (After S ys start filled) ys zs filled (length ys) g p (to p now')))
-            (λ old. not_twice zs filled (length ys) p g.indexed (on p old) (to p now')))
-            (listed_split zs 0 filled (length zs) p l)),
-        (λ j q' h r x.
-            ⊎_elim
-            (λ old. v.passed q' old x)
-            (λ now'. none q' now' x)
-            (listed_split ys 0 start filled q' (v.whole j q' (omega (arith, h)) r))),
+        depth + 1,
         (
-          q,
-          first_there xs ys start filled depth v q (new q a)
-              (λ old. absent (listed_wider zs 0 filled 0 (length ys) q (omega arith) up (on q old))),
-          λ l. absent (listed_wider zs 0 (length zs) 0 (length ys) q (omega arith) (omega (arith, e)) l),
+          g.size ∙ v.size,
+          subst (Apart zs) e (indexed_apart zs (length ys) g.indexed),
+          (λ p l.
+              ⊎_elim
+              (λ old. let w = v.sound p (listed_kept zs ys 0 filled p (λ k d h. sym (g.kept k d h)) old) in (w.0, omega (arith, w.1), w.2))
+              (λ now'.
+              first_there xs ys start filled depth v p
+              (new p (listed_new (Came S ys start filled) (After S ys start filled) ys zs filled (length ys) g p (to p now')))
+              (λ old. not_twice zs filled (length ys) p g.indexed (on p old) (to p now')))
+              (listed_split zs 0 filled (length zs) p l)),
+          (λ j q' h r x.
+              ⊎_elim
+              (λ old. v.passed q' old x)
+              (λ now'. none q' now' x)
+              (listed_split ys 0 start filled q' (v.whole j q' (omega (arith, h)) r))),
+          (
+            q,
+            first_there xs ys start filled depth v q (new q a)
+                (λ old. absent (listed_wider zs 0 filled 0 (length ys) q (omega arith) up (on q old))),
+            λ l. absent (listed_wider zs 0 (length zs) 0 (length ys) q (omega arith) (omega (arith, e)) l),
+          ),
         ),
       )
 
-  pub begin_short : (F : Row → Type 0) (xs ys : List (Cell Row)) → Spread F I xs ys 0 None → Searched I S E xs ys (Short 0)
+  pub begin_short : (F : Row → Type 0) (xs ys : List (Cell Row)) → Spread F I xs ys 0 None → Searched I S E xs ys None
   begin_short F xs ys (g, (q, a, absent)) =
       let e : length xs ≡ length ys = sym g.size in (
-        g.size,
-        subst (Apart ys) e (indexed_apart ys (length xs) g.indexed),
-        (λ p l.
-            (0, omega arith, (listed_new F I xs ys 0 (length xs) g p (listed_wider ys 0 (length ys) 0 (length xs) p (omega arith) (omega (arith, e)) l), λ m r. omega arith))),
-        (λ j q' h r x. absurd (omega (arith, h))),
-        (q, (0, omega arith, (a, λ m r. omega arith)), λ l. absent (listed_wider ys 0 (length ys) 0 (length xs) q (omega arith) (omega (arith, e)) l)),
+        0,
+        (
+          g.size,
+          subst (Apart ys) e (indexed_apart ys (length xs) g.indexed),
+          (λ p l.
+              (0, omega arith, (listed_new F I xs ys 0 (length xs) g p (listed_wider ys 0 (length ys) 0 (length xs) p (omega arith) (omega (arith, e)) l), λ m r. omega arith))),
+          (λ j q' h r x. absurd (omega (arith, h))),
+          (q, (0, omega arith, (a, λ m r. omega arith)), λ l. absent (listed_wider ys 0 (length ys) 0 (length xs) q (omega arith) (omega (arith, e)) l)),
+        ),
       )
 
   -- the rows before the starting positions were entered, in place of those after

@@ -1,6 +1,6 @@
 -- The next labels in the cells, and the positions that they make.
-use Rattle.std.proofs.Common.{◌≡◌, ℕ, ◌^◌, ◌<◌, ◌≤◌, true, false, List, [], ◌∷◌, map, length, get_or, Some, None, sym, refl, ap, ◌∙◌, subst, inl, inr, arith}
-use Rattle.std.proofs.lemmas.List.{get_or-map, length-map}
+use Rattle.std.proofs.Common.{◌≡◌, ℕ, ◌^◌, ◌<◌, ◌≤◌, false, List, [], ◌∷◌, map, length, get_or, take, Some, None, Option, sym, refl, ap, ◌∙◌, subst, inl, inr, arith}
+use Rattle.std.proofs.lemmas.List.{get_or-map, length-map, take_all}
 use Rattle.intern.specs.declared.cell.Cell.{Cell}
 use Rattle.intern.specs.Index.{items}
 use Rattle.intern.specs.Links.{leaf}
@@ -16,11 +16,10 @@ use Rattle.successors.specs.declared.label.NextLabel.{NextLabel}
 use Rattle.successors.specs.Cells.{same_label, label_turn, labels, capacity}
 use Rattle.successors.specs.Handing.{ListsNext}
 use Rattle.search.specs.declared.row.Row.{Row}
-use Rattle.search.specs.declared.labels.Pattern.{Pattern}
 use Rattle.search.specs.Rows.{position}
 use Rattle.search.specs.Layers.{Listed, Grown, Spread}
 use Rattle.search.specs.Outcomes.{positions}
-use Rattle.search.specs.Questions.{at_place, SomeOf, Labelled, LabelledOr, Known, Patterned}
+use Rattle.search.specs.Questions.{at_place, SomeOf, Labelled, LabelledOr, Patterned}
 use Rattle.search.proofs.Answering.{length_positions, listed_in}
 use Rattle.search.proofs.Lists.{grown_like, grown_to, listed_to}
 use Rattle.search.proofs.Members.{in_at, at_in}
@@ -63,16 +62,21 @@ module _ (cells : List (Cell NextLabel)) (n : ℕ) (room : n ≤ length cells) w
       let named : p.label ≡ label_in cells r.0 = sym (r.2 0) ∙ label_at r.0 0 lt in
       (r.0, omega arith, lt, by_parts p place (label_in cells r.0) code at named is)
 
+-- the labels of the first n cells alone
+pub labels_front : (cells : List (Cell NextLabel)) (n : ℕ) → n ≤ length cells → labels (take n cells) (length (take n cells)) ≡ labels cells n
+labels_front cells n room =
+    ap (λ (l : List (Cell NextLabel)). map (λ (x : NextLabel). x.formulas) (map (λ (c : Cell NextLabel). c.item) l))
+    (take_all (length (take n cells)) (take n cells) (omega arith))
+
 -- WHAT THE EXPANSION HAS LEFT IN THE CELLS
 
 module _ (b : Contents) (L : Label) (truth : ℕ) (cells after : List (Cell NextLabel)) where
   pub patterned_some : (count : ℕ) → ListsNext b truth false L cells after (Some count)
-      → Patterned b L truth after (Some (record { set = true; truth = truth; count = count }))
+      → Patterned b L truth after (Some (record { truth = truth; count = count }))
   patterned_some count lists =
       let e = lists (moment truth false) (shows_moment b.atoms truth false) in (
         refl,
-        refl,
-        λ _. (
+        (
           (to_index same_label label_turn after count e.0.indexed).within,
           λ w sh q. ((λ i. (lists w sh).0.only q i), (λ h. (lists w sh).1 q h)),
         ),
@@ -89,11 +93,6 @@ module _ (b : Contents) (L : Label) (truth : ℕ) (cells after : List (Cell Next
             let x = (lists w sh).1 in
             (x.0, x.1, λ i. x.2 (subst (λ (n : ℕ). In x.0 (labels after n)) (sym full) i));
       }
-
--- the labels serve again
-pub patterned_again : (b : Contents) (L : Label) (truth : ℕ) (cells : List (Cell NextLabel)) (p : Pattern) → p.set ≡ true → p.truth ≡ truth → Known b L cells p
-    → Patterned b L truth cells (Some p)
-patterned_again b L truth cells p set is known = (is, set, known)
 
 -- MORE LABELS THAN ROWS
 
@@ -139,7 +138,7 @@ module _ (xs ys : List (Cell Row)) (n : ℕ) (from place code : ℕ) (cells : Li
         subst (λ (M : Label). In M (labels cells count)) (sym (ap (λ (x : Position). x.label) e)) r.1,
       ))
 
-  pub overfull_some : (m : ℕ) → Spread F (Labelled place code cells count) xs ys n (Some m) → Spread F (LabelledOr L place code cells count) xs ys n None
+  overfull_some : (m : ℕ) → Spread F (Labelled place code cells count) xs ys n (Some m) → Spread F (LabelledOr L place code cells count) xs ys n None
   overfull_some m (g, all) =
       let room = g.room in
       let size = g.size in
@@ -167,5 +166,9 @@ module _ (xs ys : List (Cell Row)) (n : ℕ) (from place code : ℕ) (cells : Li
         ),
       )
 
-  pub overfull_none : Spread F (Labelled place code cells count) xs ys n None → Spread F (LabelledOr L place code cells count) xs ys n None
+  overfull_none : Spread F (Labelled place code cells count) xs ys n None → Spread F (LabelledOr L place code cells count) xs ys n None
   overfull_none (g, (p, x, missing)) = (wider (length xs) g, (p, inl x, missing))
+
+  pub overfull_any : (r : Option ℕ) → Spread F (Labelled place code cells count) xs ys n r → Spread F (LabelledOr L place code cells count) xs ys n None
+  overfull_any (Some m) s = overfull_some m s
+  overfull_any None s = overfull_none s

@@ -5,7 +5,7 @@ use Rattle.intern.specs.Index.{Indexed}
 use Rattle.tableau.specs.Positions.{Position, Question, last_place}
 use Rattle.search.specs.declared.row.Row.{Row}
 use Rattle.search.specs.declared.layers.Found.{Found}
-use Rattle.search.specs.declared.layers.Found.TheVariants.{Can, Cannot, Short}
+use Rattle.search.specs.declared.layers.Found.TheVariants.{Can, Cannot}
 use Rattle.search.specs.Rows.{position, same_position, row_turn}
 
 -- the position in cell k
@@ -90,18 +90,21 @@ pub record Exactly (P : Position → Type 0) (xs : List (Cell Row)) (n : ℕ) : 
 abbrev pub RestKept : (xs ys : List (Cell Row)) → ℕ → Type 0
 RestKept xs ys n = (length ys ≡ length xs) × ((k : ℕ) (d : Cell Row) → n ≤ k → slice_index_or ys k d ≡ slice_index_or xs k d)
 
--- What the search has found. Can: the cells hold the positions at distance at most `depth`, no nearer one ends, and the one in cell `row` does.
--- Cannot: they hold all that steps lead to, and none ends.
--- Short: they hold different positions at distance at most `depth`, no nearer one ends, and one more such position has no cell.
-abbrev pub Searched : (I : Position → Type 0) (S : Position → Position → Type 0) (E : Position → Type 0) (xs ys : List (Cell Row)) → Found → Type 0
-Searched I S E xs ys (Can row count depth) =
-    Exactly (Within I S depth) ys count × Unended I S E depth × (row < count) × Traced I S ys depth row
-    × ((d : Cell Row) → E (held ys row d)) × RestKept xs ys count × (depth < count)
-Searched I S E xs ys (Cannot count) =
-    Exactly (λ q. (j : ℕ) × Least I S j q) ys count × ((j : ℕ) (q : Position) → LedTo I S j q → E q → ⊥) × RestKept xs ys count
-Searched I S E xs ys (Short depth) =
+-- The rows are too few: they hold different positions at distance at most `depth`, no nearer one ends, and one more such position has no cell.
+abbrev pub Outnumbered : (I : Position → Type 0) (S : Position → Position → Type 0) (E : Position → Type 0) (xs ys : List (Cell Row)) → (depth : ℕ) → Type 0
+Outnumbered I S E xs ys depth =
     (length ys ≡ length xs) × Apart ys (length ys) × ((p : Position) → Listed ys 0 (length ys) p → Within I S depth p)
     × Unended I S E depth × ((p : Position) × Within I S depth p × (Listed ys 0 (length ys) p → ⊥))
+
+-- What the search has found. Can: the cells hold the positions at distance at most `depth`, no nearer one ends, and the one in cell `row` does.
+-- Cannot: they hold all that steps lead to, and none ends. None: the rows are too few.
+abbrev pub Searched : (I : Position → Type 0) (S : Position → Position → Type 0) (E : Position → Type 0) (xs ys : List (Cell Row)) → Option Found → Type 0
+Searched I S E xs ys (Some (Can row count depth)) =
+    Exactly (Within I S depth) ys count × Unended I S E depth × (row < count) × Traced I S ys depth row
+    × ((d : Cell Row) → E (held ys row d)) × RestKept xs ys count × (depth < count)
+Searched I S E xs ys (Some (Cannot count)) =
+    Exactly (λ q. (j : ℕ) × Least I S j q) ys count × ((j : ℕ) (q : Position) → LedTo I S j q → E q → ⊥) × RestKept xs ys count
+Searched I S E xs ys None = (depth : ℕ) × Outnumbered I S E xs ys depth
 
 -- a position within the bounds of a question: a place, formulas and a code that exist
 pub record Bounded (q : Question) (p : Position) : Type 0 where

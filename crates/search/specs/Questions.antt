@@ -1,6 +1,7 @@
 -- The question of a theory, a book and kept visits, and where its steps lead.
 use Rattle.std.specs.Prelude.{◌≡◌, ℕ, ◌^◌, ◌<◌, ◌≤◌, true, false, ◌⊎◌, ◌↔◌, List, length, Some, None, Option}
 use Rattle.intern.specs.declared.cell.Cell.{Cell}
+use Rattle.std.specs.declared.ops.Range.{Range}
 use Rattle.theory.specs.Meaning.{Meaning}
 use Rattle.theory.specs.declared.next.Next.{Next}
 use Rattle.theory.specs.declared.next.Next.TheVariants.{Code}
@@ -14,7 +15,6 @@ use Rattle.viability.specs.Viable.{known_part}
 use Rattle.successors.specs.declared.label.NextLabel.{NextLabel}
 use Rattle.successors.specs.Cells.{labels}
 use Rattle.search.specs.declared.row.Row.{Row}
-use Rattle.search.specs.declared.visits.Visits.{Visits}
 use Rattle.search.specs.declared.labels.Pattern.{Pattern}
 
 -- the question of a theory's meaning, a book's contents and kept visits
@@ -44,9 +44,9 @@ facts_at m c n = record { meaning = m; code = c; next = n }
 abbrev pub Shown : Meaning → (code : ℕ) → Next → (mask k : ℕ) → Type 0
 Shown m c n mask k = (a : ℕ) → (a ∈ mask) ↔ ((a < k) × (m.fact a c n ≡ true))
 
--- the codes from `first` up to `end` are those that may stand at place p
-abbrev pub Allowed : (codes : ℕ) → (kept : List ℕ) → (p : ℕ) → Visits → Type 0
-Allowed codes kept p v = (v.first ≤ v.end) × (v.end ≤ codes) × ((c : ℕ) → Visited codes kept p c ↔ ((v.first ≤ c) × (c < v.end)))
+-- the codes of the range are those that may stand at place p
+abbrev pub Allowed : (codes : ℕ) → (kept : List ℕ) → (p : ℕ) → Range ℕ → Type 0
+Allowed codes kept p v = (v.start ≤ v.end) × (v.end ≤ codes) × ((c : ℕ) → Visited codes kept p c ↔ ((v.start ≤ c) × (c < v.end)))
 
 -- the label has exactly the rules
 abbrev pub HasRules : Contents → Label → Type 0
@@ -78,8 +78,9 @@ HoldsNext b L truth cells n =
     (w : Moment) → Shows w b.atoms truth false → (q : Label) → In q (labels cells n) ↔ HandsOn w b (known_part b L) q
 
 -- what the pattern says of the cells
-abbrev pub Known : Contents → Label → List (Cell NextLabel) → Pattern → Type 0
-Known b L cells p = p.set ≡ true → (p.count ≤ length cells) × HoldsNext b L p.truth cells p.count
+abbrev pub Known : Contents → Label → List (Cell NextLabel) → Option Pattern → Type 0
+Known b L cells (Some p) = (p.count ≤ length cells) × HoldsNext b L p.truth cells p.count
+Known b L cells None = Unit {0}
 
 -- all cells hold next labels, each once, and there is another
 pub record Overfull (b : Contents) (L : Label) (truth : ℕ) (cells : List (Cell NextLabel)) : Type 0 where
@@ -89,5 +90,5 @@ pub record Overfull (b : Contents) (L : Label) (truth : ℕ) (cells : List (Cell
 
 -- the cells hold the next labels for the mask, and the pattern says so; or there are too many
 abbrev pub Patterned : Contents → Label → (truth : ℕ) → List (Cell NextLabel) → Option Pattern → Type 0
-Patterned b L truth cells (Some p) = (p.truth ≡ truth) × (p.set ≡ true) × Known b L cells p
+Patterned b L truth cells (Some p) = (p.truth ≡ truth) × Known b L cells (Some p)
 Patterned b L truth cells None = Overfull b L truth cells

@@ -29,12 +29,7 @@ fn next_place(kept: &[u16], place: u16) -> u16
     requires { length kept.now ≤ 65536 }
     ensures { result ≡ min (suc place) (pred (length kept.now)) }
 {
-    let last = last_place(kept);
-    if usize::from(place) < last {
-        place + 1
-    } else {
-        last as u16
-    }
+    (usize::from(place) + 1).min(last_place(kept)) as u16
 }
 
 impl<T: Theory> Space for Asked<'_, '_, '_, T> {

@@ -7,10 +7,10 @@ ghost use Rattle.search.specs.Rows.{position};
 
 use crate::Row;
 use crate::facts::truth_at;
-use crate::labels::{Pattern, enter_labels, fill_up, labels_for};
-use crate::visits::Visits;
+use crate::labels::{enter_labels, fill_up, labels_for};
 use intern::Cell;
 use ltlf::Book;
+use std::ops::Range;
 use successors::NextLabel;
 use theory::{Next, Theory};
 
@@ -22,41 +22,29 @@ pub(crate) fn expand_codes<T: Theory>(
     book: &Book,
     row: Row,
     visit: Row,
-    visits: Visits,
+    visits: Range<u16>,
     rows: &mut [Cell<Row>],
     filled: usize,
     cells: &mut [Cell<NextLabel>],
 ) -> Option<usize>
     requires atoms { ((book_contents book.now).atoms ≡ (T.Theory.meaning theory.now).atoms) × ((book_contents book.now).atoms ≤ 32) }
-    requires codes { (row.code < (T.Theory.meaning theory.now).codes) × ((visits.first ≤ visits.end) × (visits.end ≤ (T.Theory.meaning theory.now).codes)) }
+    requires codes { (row.code < (T.Theory.meaning theory.now).codes) × ((visits.start ≤ visits.end) × (visits.end ≤ (T.Theory.meaning theory.now).codes)) }
     requires known { row.label < 2 ^ length (book_contents book.now).nodes }
     requires room { Room rows.old cells.old }
     requires indexed { IndexedRows rows.old filled }
-    ensures { Spread (λ e. e.from ≡ visit.from) (SomeOf (StepsFrom (T.Theory.meaning theory.now) (book_contents book.now) (position row) visit.place) visits.first visits.end) rows.old rows.new filled result }
+    ensures { Spread (λ e. e.from ≡ visit.from) (SomeOf (StepsFrom (T.Theory.meaning theory.now) (book_contents book.now) (position row) visit.place) visits.start visits.end) rows.old rows.new filled result }
 {
     let mut filled = filled;
-    let mut known = Pattern {
-        set: false,
-        truth: 0,
-        count: 0,
-    };
-    for code in visits.first..visits.end {
+    let mut known = None;
+    for code in visits {
         let truth = truth_at(theory, book.atom_count(), row.code, Next::Code(code));
-        let at = Row {
-            place: visit.place,
-            code,
-            label: 0,
-            from: visit.from,
-        };
+        let at = Row { code, ..visit };
         let Some(pattern) = labels_for(book, row.label, truth, cells, known) else {
             fill_up(rows, filled, at, cells);
             return None;
         };
-        known = pattern;
-        let Some(more) = enter_labels(rows, filled, at, cells, pattern.count) else {
-            return None;
-        };
-        filled = more;
+        known = Some(pattern);
+        filled = enter_labels(rows, filled, at, &cells[..pattern.count])?;
     }
     Some(filled)
 }

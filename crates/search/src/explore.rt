@@ -26,14 +26,14 @@ pub(crate) fn explore<S: Space>(
     ensures history { HistoryLeft (S.Space.question space.now) history.old history.new result }
 {
     match by_layers(space, rows, labels) {
-        Found::Can(row, filled, depth) => {
+        Some(Found::Can { row, filled, depth }) => {
             read_back(rows, rows[row].item, depth, history);
             Outcome::Can {
                 length: depth + 1,
                 rows: filled,
             }
         }
-        Found::Cannot(filled) => Outcome::Cannot { rows: filled },
-        Found::Short(_) => Outcome::Short { rows: rows.len() },
+        Some(Found::Cannot { filled }) => Outcome::Cannot { rows: filled },
+        None => Outcome::Short { rows: rows.len() },
     }
 }

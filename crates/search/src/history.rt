@@ -11,11 +11,9 @@ pub(crate) fn read_back(rows: &[Cell<Row>], row: Row, depth: usize, history: &mu
     ensures { history.new ≡ trail rows.now depth row ++ drop (suc depth) history.old }
 {
     let mut at = row;
-    let mut left = depth;
-    'back: while left > 0 {
-        history[left] = at.code;
+    for left in (0..depth).rev() {
+        history[left + 1] = at.code;
         at = rows[at.from as usize].item;
-        left -= 1;
     }
     history[0] = at.code;
 }

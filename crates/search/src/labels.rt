@@ -14,10 +14,9 @@ use ltlf::Book;
 use successors::{NextLabel, next_labels};
 use viability::Visit;
 
-/// Which atoms hold, and how many next labels there are then; `set` says whether it stands for anything.
+/// Which atoms hold, and how many next labels there are then.
 #[derive(Clone, Copy, Drop)]
 pub(crate) struct Pattern {
-    pub(crate) set: bool,
     pub(crate) truth: u64,
     pub(crate) count: usize,
 }
@@ -30,30 +29,26 @@ pub(crate) fn labels_for(
     label: u64,
     truth: u64,
     cells: &mut [Cell<NextLabel>],
-    known: Pattern,
+    known: Option<Pattern>,
 ) -> Option<Pattern>
     requires { (length cells.old ≤ 2 ^ 32) × (Known (book_contents book.now) label cells.old known) }
     ensures { Patterned (book_contents book.now) label truth cells.new result }
 {
-    if known.set && known.truth == truth {
-        return Some(known);
+    if let Some(pattern) = known {
+        if pattern.truth == truth {
+            return known;
+        }
     }
     let visit = Visit {
         book,
         truth,
         last: false,
     };
-    match next_labels(&visit, label, cells) {
-        Some(count) => Some(Pattern {
-            set: true,
-            truth,
-            count,
-        }),
-        None => None,
-    }
+    let count = next_labels(&visit, label, cells)?;
+    Some(Pattern { truth, count })
 }
 
-/// Enters the positions of a place and a code with the first `count` labels of the cells.
+/// Enters the positions of a place and a code with the labels of the cells.
 ///
 /// `None` where a row is wanted and none is left.
 pub(crate) fn enter_labels(
@@ -61,23 +56,14 @@ pub(crate) fn enter_labels(
     filled: usize,
     visit: Row,
     cells: &[Cell<NextLabel>],
-    count: usize,
 ) -> Option<usize>
-    requires { (length rows.old ≤ 2 ^ 32) × ((IndexedRows rows.old filled) × (count ≤ length cells.now)) }
-    ensures { Spread (λ e. e.from ≡ visit.from) (Labelled visit.place visit.code cells.now count) rows.old rows.new filled result }
+    requires { (length rows.old ≤ 2 ^ 32) × IndexedRows rows.old filled }
+    ensures { Spread (λ e. e.from ≡ visit.from) (Labelled visit.place visit.code cells.now (length cells.now)) rows.old rows.new filled result }
 {
     let mut filled = filled;
-    for i in 0..count {
-        let row = Row {
-            place: visit.place,
-            code: visit.code,
-            label: cells[i].item.formulas,
-            from: visit.from,
-        };
-        let Some(more) = enter(rows, filled, row) else {
-            return None;
-        };
-        filled = more;
+    for cell in cells {
+        let label = cell.item.formulas;
+        filled = enter(rows, filled, Row { label, ..visit })?;
     }
     Some(filled)
 }
@@ -87,8 +73,5 @@ pub(crate) fn fill_up(rows: &mut [Cell<Row>], filled: usize, visit: Row, cells: 
     requires { (length rows.old ≤ 2 ^ 32) × ((IndexedRows rows.old filled) × ((length rows.old ≤ length cells.now) × (Distinct (labels cells.now (length cells.now))))) }
     ensures { (L : Label) → (In L (labels cells.now (length cells.now)) → ⊥) → Spread (λ e. e.from ≡ visit.from) (LabelledOr L visit.place visit.code cells.now (length cells.now)) rows.old rows.new filled None }
 {
-    match enter_labels(rows, filled, visit, cells, cells.len()) {
-        Some(_) => {}
-        None => {}
-    }
+    let _ = enter_labels(rows, filled, visit, cells);
 }

@@ -10,15 +10,19 @@ use crate::space::Space;
 use intern::{Cell, Slot, find_or_add};
 use successors::NextLabel;
 
-/// What a search has found.
+/// What a search that had rows enough has found.
 #[derive(Clone, Copy, Drop)]
 pub(crate) enum Found {
-    /// The row of a position that ends, how many rows are filled, and its distance.
-    Can(usize, usize, usize),
-    /// No position ends; how many rows are filled.
-    Cannot(usize),
-    /// No row is left for a position at this distance.
-    Short(usize),
+    /// The position of a row ends, and none at a smaller distance does.
+    Can {
+        row: usize,
+        filled: usize,
+        depth: usize,
+    },
+    /// No position ends.
+    Cannot {
+        filled: usize,
+    },
 }
 
 /// Enters a row behind the first `filled`, unless its position stands there; `None` where no row is left.
@@ -70,44 +74,34 @@ pub(crate) fn expand_layer<S: Space>(
     ensures { Spread (Came (Step (S.Space.question space.now)) rows.old start end) (After (Step (S.Space.question space.now)) rows.old start end) rows.old rows.new end result }
 {
     let mut filled = end;
+    // By number: rows are entered behind the layer while it is read.
     for i in start..end {
-        match space.expand(rows[i].item, i as u32, rows, filled, labels) {
-            Some(n) => {
-                filled = n;
-            }
-            None => {
-                return None;
-            }
-        }
+        filled = space.expand(rows[i].item, i as u32, rows, filled, labels)?;
     }
     Some(filled)
 }
 
-/// Enters the positions up to the least distance at which one ends, or all that steps lead to.
+/// Enters the positions up to the least distance at which one ends, or all that steps lead to; `None` where a row is wanted and none is left.
 pub(crate) fn by_layers<S: Space>(
     space: &S,
     rows: &mut [Cell<Row>],
     labels: &mut [Cell<NextLabel>],
-) -> Found
+) -> Option<Found>
     requires ready { Ready (S.Space.question space.now) }
     requires room { Room rows.old labels.old }
     ensures { Searched (Starts (S.Space.question space.now)) (Step (S.Space.question space.now)) (Ends (S.Space.question space.now)) rows.old rows.new result }
 {
-    let Some(mut filled) = space.begin(rows) else {
-        return Found::Short(0);
-    };
+    let mut filled = space.begin(rows)?;
     let mut start = 0;
     let mut depth = 0;
     'layers: while start < filled {
-        if let Some(i) = first_end(space, rows, start, filled) {
-            return Found::Can(i, filled, depth);
+        if let Some(row) = first_end(space, rows, start, filled) {
+            return Some(Found::Can { row, filled, depth });
         }
-        let Some(more) = expand_layer(space, rows, start, filled, labels) else {
-            return Found::Short(depth + 1);
-        };
+        let more = expand_layer(space, rows, start, filled, labels)?;
         start = filled;
         filled = more;
         depth += 1;
     }
-    Found::Cannot(filled)
+    Some(Found::Cannot { filled })
 }

@@ -1,6 +1,5 @@
 // The public call.
 ghost use Rattle.std.specs.Prelude.{◌≡◌, length};
-ghost use Rattle.judge.specs.Judging.{all_codes, same_counts};
 ghost use Rattle.ltlf.specs.Contents.{book_contents};
 ghost use Rattle.search.specs.Calls.{search_check, search_answer, RowsAfter, HistoryAfter};
 ghost use Rattle.search.specs.Questions.{asked};
@@ -9,29 +8,11 @@ use crate::asked::Asked;
 use crate::explore::explore;
 use crate::{Outcome, Row};
 use intern::Cell;
+use judge::{all_codes, same_counts};
 use ltlf::Book;
 use refusal::Refusal;
 use successors::NextLabel;
 use theory::Theory;
-
-/// Whether every visit is one of `codes` codes.
-fn all_codes(codes: u16, visits: &[u16]) -> bool
-    ensures { result ≡ all_codes codes visits.now }
-{
-    for code in visits {
-        if *code >= codes {
-            return false;
-        }
-    }
-    true
-}
-
-/// Whether theory and book have the same counts of codes and atoms.
-fn same_counts<T: Theory>(theory: &T, book: &Book) -> bool
-    ensures { result ≡ same_counts (T.Theory.meaning theory.now) (book_contents book.now) }
-{
-    book.code_count() == theory.code_count() && book.atom_count() == theory.atom_count()
-}
 
 /// Checks that a question can be searched.
 ///

@@ -15,6 +15,7 @@ pub struct Row {
 }
 
 /// Rows are equal when they hold one position, wherever it came from.
+// By hand: a derive would compare `from`, and a position would be entered once for each row that leads to it.
 impl PartialEq for Row {
     ghost eq = { λ x y. same_position x y };
 

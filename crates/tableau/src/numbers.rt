@@ -2,29 +2,21 @@
 ghost use Rattle.tableau.specs.Theorems.{SameMembers, ExpansionIsComputed, NextIsComputed, NextLabelsAreComputed};
 
 /// Labels with the same members are equal numbers.
-pub fn same_members() -> u8
+pub fn same_members()
     ensures { SameMembers }
-{
-    0
-}
+{}
 
 /// The computed expansion has exactly the members of the expansion.
-pub fn expansion_is_computed() -> u8
+pub fn expansion_is_computed()
     ensures { ExpansionIsComputed }
-{
-    0
-}
+{}
 
 /// The computed next label is the next label.
-pub fn next_is_computed() -> u8
+pub fn next_is_computed()
     ensures { NextIsComputed }
-{
-    0
-}
+{}
 
 /// The computed next labels are those of the sound choices.
-pub fn next_labels_are_computed() -> u8
+pub fn next_labels_are_computed()
     ensures { NextLabelsAreComputed }
-{
-    0
-}
+{}

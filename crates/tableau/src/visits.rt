@@ -2,22 +2,16 @@
 ghost use Rattle.tableau.specs.Theorems.{StepIsSound, StepIsComplete, ExpansionIsLeast};
 
 /// A label holds at a visit where some choice is sound and what it hands on holds at the next.
-pub fn step_is_sound() -> u8
+pub fn step_is_sound()
     ensures { StepIsSound }
-{
-    0
-}
+{}
 
 /// Where a label holds, some choice is sound and what it hands on holds at the next visit.
-pub fn step_is_complete() -> u8
+pub fn step_is_complete()
     ensures { StepIsComplete }
-{
-    0
-}
+{}
 
 /// The expansion lies inside every set that holds the label and the parts of its members.
-pub fn expansion_is_least() -> u8
+pub fn expansion_is_least()
     ensures { ExpansionIsLeast }
-{
-    0
-}
+{}

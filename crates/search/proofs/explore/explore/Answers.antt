@@ -1,34 +1,40 @@
-use Rattle.std.proofs.Common.{refl, arith}
+use Rattle.std.proofs.Common.{Some, subst, refl, arith}
+use Rattle.tableau.specs.Positions.{Starts, Step, Ends}
+use Rattle.search.specs.declared.layers.Found.{Found}
+use Rattle.search.specs.Layers.{Searched}
 use Rattle.search.proofs.Members.{same_rest}
 use Rattle.search.proofs.Answering.{can_left, can_answer, can_backed, can_history, cannot_left, cannot_answer, short_distinct, short_counted, short_answer}
 use Rattle.search.proofs.explore.explore.Goals as goal
 
 pub read_back-requires : goal.read_back-requires
 read_back-requires g c =
-    let x = c.in-Can.ensures in
+    let q = g.S.Space.question c.args.space.now in
+    let x = subst (λ (f : Found). Searched (Starts q) (Step q) (Ends q) c.args.rows.now c.by_layers.new.rows (Some f)) c.in-Some-Can.field-0-is c.in-Some-Can.ensures in
     (omega (arith, x.0.room, x.6, x.5.0), can_backed _ c.requires.ready.posed _ _ _ _ _ x)
 
-pub returns-in-Can : goal.returns-in-Can
-returns-in-Can g c =
-    let x = c.in-Can.ensures in
+pub returns-in-Some-Can : goal.returns-in-Some-Can
+returns-in-Some-Can g c =
+    let q = g.S.Space.question c.args.space.now in
+    let x = subst (λ (f : Found). Searched (Starts q) (Step q) (Ends q) c.args.rows.now c.by_layers.new.rows (Some f)) c.in-Some-Can.field-0-is c.in-Some-Can.ensures in
     record {
       answer = can_answer _ c.requires.ready.posed _ _ _ _ _ x;
       rows = (can_left _ c.requires.ready.posed _ _ _ _ _ x, x.5.0, same_rest _ _ _ x.5.0 x.5.1);
       history = can_history _ c.requires.ready.posed _ _ _ _ _ x _ _ c.read_back.ensures;
     }
 
-pub returns-in-Cannot : goal.returns-in-Cannot
-returns-in-Cannot g c =
-    let x = c.in-Cannot.ensures in
+pub returns-in-Some-Cannot : goal.returns-in-Some-Cannot
+returns-in-Some-Cannot g c =
+    let q = g.S.Space.question c.args.space.now in
+    let x = subst (λ (f : Found). Searched (Starts q) (Step q) (Ends q) c.args.rows.now c.by_layers.new.rows (Some f)) c.in-Some-Cannot.field-0-is c.in-Some-Cannot.ensures in
     record {
       answer = cannot_answer _ c.requires.ready.posed _ _ _ x;
       rows = (cannot_left _ c.requires.ready.posed _ _ _ x, x.2.0, same_rest _ _ _ x.2.0 x.2.1);
       history = refl;
     }
 
-pub returns-in-Short : goal.returns-in-Short
-returns-in-Short g c =
-    let x = c.in-Short.ensures in
+pub returns-in-None : goal.returns-in-None
+returns-in-None g c =
+    let x = c.in-None.ensures.1 in
     record {
       answer = short_answer _ c.requires.ready.posed _ _ _ x;
       rows = (short_distinct _ c.requires.ready.posed _ _ _ x, short_counted _ c.requires.ready.posed _ _ _ x, x.0);

@@ -1,8 +1,5 @@
 use Rattle.search.proofs.Backward.{Back}
 use Rattle.search.proofs.history.read_back.Given as goal
 
-abbrev pub invariant-back : goal.invariant-back
-invariant-back l = Back l.rows l.initial.history l.initial.at l.depth l.history l.at l.left
-
-abbrev pub decreases-back : goal.decreases-back
-decreases-back l = l.left
+abbrev pub invariant-loop-left : goal.invariant-loop-left
+invariant-loop-left l = Back l.rows l.initial.history l.initial.at l.depth l.history l.at l.left

@@ -1,19 +1,25 @@
-use Rattle.std.proofs.Common.{arith}
+use Rattle.std.proofs.Common.{◌≡◌, ℕ, List, length, get_or, ap, ◌∙◌, arith}
+use Rattle.masks.proofs.Bits.{including_is}
 use Rattle.ltlf.specs.Contents.{book_contents}
 use Rattle.ltlf.proofs.Books.{book_proper}
 use Rattle.search.proofs.Ruling.{first_none, first_more, first_all}
 use Rattle.search.proofs.rules.rules_label.Goals as goal
 
-pub loop-place-init : goal.loop-place-init
-loop-place-init c = first_none (book_contents c.args.book.now).rules
+pub loop-rule-init : goal.loop-rule-init
+loop-rule-init c = first_none (book_contents c.args.book.now).rules
 
-pub with_formula-label-requires : goal.with_formula-label-requires
-with_formula-label-requires c =
+pub loop-rule-preserved : goal.loop-rule-preserved
+loop-rule-preserved c =
     let pr = book_proper c.args.book.now in
-    omega (arith, pr.few, pr.were_put c.loop-place.place (omega arith), c.rule_at-rule.ensures)
-
-pub loop-place-preserved : goal.loop-place-preserved
-loop-place-preserved c = first_more (book_contents c.args.book.now).rules _ _ _ _ c.loop-place.invariant c.rule_at-rule.ensures c.with_formula-label.ensures
+    let at = c.loop-rule.rule-index in
+    let rules = (book_contents c.args.book.now).rules in
+    let size : length c.rules-rule-items.result.now ≡ length rules = ap length c.rules-rule-items.ensures in
+    let read : get_or c.rules-rule-items.result.now at 0 ≡ get_or rules at 0 = ap (λ (l : List ℕ). get_or l at 0) c.rules-rule-items.ensures in
+    let put = pr.were_put at (omega arith) in
+    first_more (book_contents c.args.book.now).rules _ _ _ _ c.loop-rule.invariant read
+    (c.with-label.ensures ∙ including_is _ _ (omega (arith, pr.few, put, read)))
 
 pub returns : goal.returns
-returns c = first_all (book_contents c.args.book.now).rules _ _ (omega arith) (omega arith) c.loop-place.invariant
+returns c =
+    let size : length c.rules-rule-items.result.now ≡ length (book_contents c.args.book.now).rules = ap length c.rules-rule-items.ensures in
+    first_all (book_contents c.args.book.now).rules _ _ (omega arith) (omega arith) c.loop-rule.invariant
