@@ -4,22 +4,18 @@ use Rattle.std.proofs.lemmas.Bool.{cond_both}
 use Rattle.refusal.specs.declared.SheetRefusal.{SheetRefusal}
 use Rattle.refusal.specs.declared.SheetRefusal.TheVariants.{Bytes, Trailer, Opening, Rule, Note}
 use Rattle.flags.specs.Model.{FlagsModel}
-use Rattle.flags.specs.Filling.{fresh_flags}
 use Rattle.numbers.specs.Model.{NumbersModel}
-use Rattle.numbers.specs.Values.{combinations}
-use Rattle.numbers.specs.Filling.{fresh_numbers}
 use Rattle.ltlf.specs.Contents.{Contents, Proper, empty, counts_leave}
 use Rattle.items.specs.Lines.{lines_of, line_length, last_start}
 use Rattle.items.specs.Trailers.{trailer_in}
 use Rattle.formula_text.specs.Grammar.{Written, write, AtomsBelow}
 use Rattle.formula_text.proofs.Once.{written_once}
-use Rattle.sheet_text.specs.Opening.{opening_read}
-use Rattle.sheet_text.specs.NumberOpening.{number_opening_read}
+use Rattle.sheet_text.specs.Held.{Held, heading_in, fresh, flags_in, numbers_in, meaning_in, counted, note_by}
+use Rattle.sheet_text.specs.Opening.{heading_of, opening_read}
 use Rattle.sheet_text.specs.Rules.{rules_read}
-use Rattle.sheet_text.specs.Notes.{Noted, note_read, number_note_read, notes_read}
-use Rattle.sheet_text.specs.Sheets.{After, refused, after_notes, after_rules, after_opening, counted, counted_numbers, passes_as_text, by_trailer, heading_of, by_heading}
+use Rattle.sheet_text.specs.Notes.{Noted, notes_read}
+use Rattle.sheet_text.specs.Sheets.{After, refused, after_notes, after_rules, after_opening, passes_as_text, by_trailer, by_heading}
 use Rattle.sheet_text.specs.declared.heading.Heading.{Heading}
-use Rattle.sheet_text.specs.declared.heading.Heading.TheVariants.{Flags, Numbers}
 use Rattle.sheet_text.specs.declared.heading.Sheet.{Sheet}
 use Rattle.rule_meaning.specs.Theorems.{rule_line, Rulebook, rule_lines, SheetSaysWritten, RulesWrittenOnce}
 use Rattle.rule_meaning.proofs.Properness.{proper_counted, no_rules}
@@ -44,24 +40,16 @@ module _ (bytes visits : List ℕ) (s : Sheet) where
         book_says (lines_of section) (counts_leave (empty 0 0) codes atoms) b (proper_counted codes atoms) (no_rules codes atoms)
         (lines_added r (lines_of section) (counts_leave (empty 0 0) codes atoms) b is)
 
-    flags_right : (own : ℕ) (o : Result FlagsModel ℕ) → Right (lines_of section) (after_opening o visits (λ m. after_rules (rules_read r section (counted m)) visits (λ b. after_notes Flags b m fresh_numbers (notes_read (note_read (length m.names)) n (take (own - n) (drop n bytes)) visits))))
-    flags_right own (Err place) e = never_refused (Opening place) s e
-    flags_right own (Ok m) e =
-        rules_right Flags (2 ^ length m.names) (length m.atoms) m fresh_numbers
-        (notes_read (note_read (length m.names)) n (take (own - n) (drop n bytes)) visits)
-        (rules_read r section (counted m)) refl e
-
-    numbers_right : (own : ℕ) (o : Result NumbersModel ℕ) → Right (lines_of section) (after_opening o visits (λ k. after_rules (rules_read r section (counted_numbers k)) visits (λ b. after_notes Numbers b fresh_flags k (notes_read (number_note_read k.variables) n (take (own - n) (drop n bytes)) visits))))
-    numbers_right own (Err place) e = never_refused (Opening place) s e
-    numbers_right own (Ok k) e =
-        rules_right Numbers (combinations k.variables) (length k.atoms) fresh_flags k
-        (notes_read (number_note_read k.variables) n (take (own - n) (drop n bytes)) visits)
-        (rules_read r section (counted_numbers k)) refl e
+    sections_right : (own : ℕ) (o : Result Held ℕ) → Right (lines_of section) (after_opening o visits (λ t. after_rules (rules_read r section (counted t)) visits (λ b. after_notes (heading_in t) b (flags_in t) (numbers_in t) (notes_read (note_by t) n (take (own - n) (drop n bytes)) visits))))
+    sections_right own (Err place) e = never_refused (Opening place) s e
+    sections_right own (Ok t) e =
+        rules_right (heading_in t) (meaning_in t).codes (meaning_in t).atoms (flags_in t) (numbers_in t)
+        (notes_read (note_by t) n (take (own - n) (drop n bytes)) visits)
+        (rules_read r section (counted t)) refl e
 
     heading_right : (own : ℕ) (h : Option Heading) → Right (lines_of section) (by_heading h bytes own r n visits)
     heading_right own None e = never_refused (Opening 0) s e
-    heading_right own (Some Flags) e = flags_right own (opening_read (take r bytes) fresh_flags) e
-    heading_right own (Some Numbers) e = numbers_right own (number_opening_read (take r bytes) fresh_numbers) e
+    heading_right own (Some h) e = sections_right own (opening_read (take r bytes) (fresh h)) e
 
   trailer_right : (t : Option (ℕ × ℕ)) → Right (rule_lines bytes t) (by_trailer bytes t visits)
   trailer_right None e = never_refused (Trailer (last_start bytes)) s e

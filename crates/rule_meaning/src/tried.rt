@@ -2,15 +2,11 @@
 ghost use Rattle.rule_meaning.specs.Examples.{LastVisitTried, OneVisitSaid};
 
 /// What `X`, `W`, `F`, `G`, `U` and `!` say of a history of one visit.
-pub fn last_visit_tried() -> u8
+pub fn last_visit_tried()
     ensures { LastVisitTried }
-{
-    0
-}
+{}
 
 /// `G W L` holds exactly for histories of one visit.
-pub fn one_visit_said() -> u8
+pub fn one_visit_said()
     ensures { OneVisitSaid }
-{
-    0
-}
+{}

@@ -2,4 +2,4 @@ pub mod Turns
 pub mod Values
 pub mod Writes
 pub mod Bytes
-pub mod Accepted
+pub mod Parts

@@ -1,44 +1,48 @@
--- A turn of a loop over the lines of a section: `text` is left of it, which ends at place `end`.
-use Rattle.std.proofs.Common.{◌≡◌, ℕ, ◌+◌, ◌-◌, ◌<◌, ◌≤◌, false, eqb, List, [], ◌∷◌, length, take, drop, Some, None, Ok, Err, Option, Result, sym, refl, ap, ◌∙◌, arith}
-use Rattle.std.proofs.lemmas.List.{length-drop, length-take-le, nil_from_length}
+-- Lines that stand in a text, taken one after the other.
+use Rattle.std.proofs.Common.{◌≡◌, ℕ, suc, ◌+◌, ◌-◌, ◌<◌, ◌≤◌, eqb, leb, List, [], ◌∷◌, length, map, take, drop, sym, refl, ap, ◌∙◌, ⊎_elim, arith}
+use Rattle.std.proofs.lemmas.Bool.{cond_both, cases_Bool, leb-true, leb-false}
+use Rattle.std.proofs.lemmas.List.{length-drop, length-take, length-take-le, drop-drop, drop-take, drop_all, take_rest}
 use Rattle.items.specs.Lines.{line_length, lines_of}
 use Rattle.items.proofs.Cuts.{lines_cut}
-use Rattle.sheet_text.specs.Lines.{go_on, lines_read}
+use Rattle.sheet_text.specs.Lines.{placed}
 
--- a loop goes on where something is left
-pub filled : (text : List ℕ) → false ≡ eqb (length text) 0 → 0 < length text
-filled [] e = let z : ◌≡◌ {A = ℕ} 0 1 = cc in absurd (omega arith)
-filled (b ∷ bs) e = omega arith
+-- the first line is no longer than its text
+line_fits : (text : List ℕ) → line_length text ≤ length text
+line_fits [] = omega arith
+line_fits (b ∷ bs) =
+    let more = line_fits bs in
+    cond_both (eqb b 10) 0 (suc (line_length bs)) (λ n. n ≤ suc (length bs)) (λ _. omega arith) (λ _. omega arith)
 
-pub shorter : (text rest : List ℕ) → 0 < length text → rest ≡ drop (line_length text + 1) text → length rest < length text
-shorter text rest some left = omega (arith, ap length left, length-drop (line_length text + 1) text)
+-- the line at a place of a text, and those after it
+pub next_line : (text line : List ℕ) (place : ℕ) → place < length text
+    → line ≡ take (line_length (take (length text - place) (drop place text))) (take (length text - place) (drop place text))
+    → placed place (lines_of (drop place text)) ≡ (place, line) ∷ placed (place + length line + 1) (lines_of (drop (place + length line + 1) text))
+next_line text line place within is =
+    let left : List ℕ = drop place text in
+    let cut : line ≡ take (line_length left) left = is ∙ ap (λ t. take (line_length t) t) (take_rest text place) in
+    let some : 0 < length left = omega (arith, length-drop place text) in
+    let size : length line ≡ line_length left = ap length cut ∙ length-take-le (line_length left) left (line_fits left) in
+    let on : place + (line_length left + 1) ≡ place + length line + 1 = omega arith in
+    ap (placed place) (lines_cut left some) ∙
+    (λ i. (place, sym cut i) ∷ placed (place + length (sym cut i) + 1) (lines_of ((drop-drop (line_length left + 1) place text ∙ ap (λ k. drop k text) on) i)))
 
-module _ {S : Type 0} (read : S → List ℕ → Option S) where
-  -- the place of what is left matters only if anything is left
-  same_place : (p q : ℕ) (text : List ℕ) (s : S) → (0 < length text → p ≡ q) → lines_read read p (lines_of text) s ≡ lines_read read q (lines_of text) s
-  same_place p q [] s e = refl
-  same_place p q (b ∷ bs) s e = ap (λ p. lines_read read p (lines_of (b ∷ bs)) s) (e (omega arith))
+-- lines without their places
+pub unplaced : (place : ℕ) (lines : List (List ℕ)) → map (λ p. p.1) (placed place lines) ≡ lines
+unplaced place [] = refl
+unplaced place (l ∷ ls) = ap (λ r. l ∷ r) (unplaced (place + length l + 1) ls)
 
-  module _ (end : ℕ) (text : List ℕ) (s : S) (goal : Result S ℕ) (within : length text ≤ end) (so : lines_read read (end - length text) (lines_of text) s ≡ goal) where
-    pub none_left : length text ≡ 0 → Ok s ≡ goal
-    none_left none = ap (λ t. lines_read read (end - length text) (lines_of t) s) (sym (nil_from_length text none)) ∙ so
+-- a text from one place up to another
+between : (text : List ℕ) (from to : ℕ) → drop from (take to text) ≡ take (to - from) (drop from text)
+between text from to =
+    ⊎_elim
+    (λ is. let order = leb-true from to is in
+    let whole : to ≡ from + (to - from) = omega arith in ap (λ k. drop from (take k text)) whole ∙ drop-take from (to - from) text)
+    (λ isnt. let order = leb-false from to isnt in
+    let none : 0 ≡ to - from = omega arith in
+    drop_all from (take to text) (omega (arith, length-take to text)) ∙ ap (λ k. take k (drop from text)) none)
+    (cases_Bool (leb from to))
 
-    module _ (line rest : List ℕ) (some : 0 < length text) (cut : line ≡ take (line_length text) text) (left : rest ≡ drop (line_length text + 1) text) where
-      by_line : lines_read read (end - length text) (lines_of text) s ≡ go_on (end - length text) (read s line) (λ s. lines_read read (end - length text + length line + 1) (lines_of rest) s)
-      by_line = ap (λ ls. lines_read read (end - length text) ls s) (lines_cut text some ∙ (λ i. sym cut i ∷ lines_of (sym left i)))
-
-      moved : 0 < length rest → end - length text + length line + 1 ≡ end - length rest
-      moved more =
-          let left-size = ap length left ∙ length-drop (line_length text + 1) text in
-          let line_size = ap length cut ∙ length-take-le (line_length text) text (omega arith) in
-          omega arith
-
-      pub turn_wrong : None ≡ read s line → Err (end - length text) ≡ goal
-      turn_wrong none = ap (λ o. go_on (end - length text) o (λ s. lines_read read (end - length text + length line + 1) (lines_of rest) s)) none ∙ sym by_line ∙ so
-
-      pub turn_right : (after : S) → Some after ≡ read s line → (length rest ≤ end) × (lines_read read (end - length rest) (lines_of rest) after ≡ goal)
-      turn_right after ok =
-          let less = shorter text rest some left in (
-            omega arith,
-            sym (same_place _ _ rest after moved) ∙ ap (λ o. go_on (end - length text) o (λ s. lines_read read (end - length text + length line + 1) (lines_of rest) s)) ok ∙ sym by_line ∙ so,
-          )
+-- what is read of a section does not depend on how the section is lent
+pub as_section : {X : Type 0} (f : ℕ → List ℕ → X) (bytes text : List ℕ) (from to next : ℕ) → text ≡ take to bytes → next ≡ from
+    → f next (drop next text) ≡ f from (take (to - from) (drop from bytes))
+as_section f bytes text from to next lent start = (λ i. f (start i) (drop (start i) (lent i))) ∙ ap (f from) (between bytes from to)

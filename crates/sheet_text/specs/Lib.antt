@@ -1,6 +1,6 @@
 pub mod Lines
-pub mod Opening
-pub mod NumberOpening
-pub mod Rules
 pub mod Notes
+pub mod Held
+pub mod Opening
+pub mod Rules
 pub mod Sheets

@@ -3,12 +3,8 @@ use Rattle.std.specs.Prelude.{ℕ, zero, suc, ◌+◌, ◌*◌, ◌^◌, ◌<◌
 use Rattle.items.specs.Lines.{behind, lines_of}
 use Rattle.items.specs.Numbers.{natural_read}
 use Rattle.items.specs.Trailers.{and_text, and_read, whole}
-use Rattle.flags.specs.Model.{FlagsModel}
-use Rattle.numbers.specs.Model.{NumbersModel}
 use Rattle.numbers.specs.Values.{VariableModel}
 use Rattle.number_text.specs.Values as number
-use Rattle.sheet_text.specs.declared.heading.Heading.{Heading}
-use Rattle.sheet_text.specs.declared.heading.Heading.TheVariants.{Flags, Numbers}
 use Rattle.sheet_text.specs.Lines.{lines_read}
 
 -- a first bit, and the code of the flags after it
@@ -38,11 +34,6 @@ note_read flags line = and_text (behind (110 ∷ 32 ∷ []) line) (values_read f
 -- a line of a note of numbers: n, and a space and a value for each variable
 abbrev pub number_note_read : List VariableModel → (line : List ℕ) → Option ℕ
 number_note_read vs line = and_text (behind (110 ∷ []) line) (number.values_read vs 0)
-
--- a line of a note, as it is written under a heading
-abbrev pub note_by : Heading → FlagsModel → NumbersModel → (line : List ℕ) → Option ℕ
-note_by Flags m k line = note_read (length m.names) line
-note_by Numbers m k line = number_note_read k.variables line
 
 -- one more note, if there is room
 abbrev pub one_more : (room count : ℕ) → Option ℕ → Option ℕ

@@ -1,38 +1,27 @@
--- The lines before the rules: the heading, the flags, the atoms.
+-- The lines before the rules: the heading, the variables, the atoms.
 use Rattle.std.specs.Prelude.{ℕ, List, [], ◌∷◌, length, Some, None, Ok, Err, Option, Result}
-use Rattle.refusal.specs.declared.FillRefusal.{FillRefusal}
-use Rattle.flags.specs.Model.{FlagsModel}
-use Rattle.flags.specs.Filling.{started, flag_answer, flag_leaves, atom_answer, atom_leaves}
 use Rattle.items.specs.Lines.{behind, lines_of}
-use Rattle.items.specs.Names.{Naming, name_read}
-use Rattle.items.specs.Trailers.{and_text, whole}
+use Rattle.items.specs.Trailers.{whole}
+use Rattle.sheet_text.specs.Held.{Held, heading_in, begun, variable_added, atom_added}
 use Rattle.sheet_text.specs.Lines.{lines_read, section}
+use Rattle.sheet_text.specs.declared.heading.Heading.{Heading}
+use Rattle.sheet_text.specs.declared.heading.Heading.TheVariants.{Flags, Numbers}
 use Rattle.sheet_text.specs.declared.opening.Stage.{Stage}
 use Rattle.sheet_text.specs.declared.opening.Stage.TheVariants.{Start, Headed, Variables, Atoms}
 
 -- how far the lines have come, and the theory so far
-abbrev pub Opened : Type 0 → Type 0
-Opened M = Stage × M
+abbrev pub Opened : Type 0
+Opened = Stage × Held
 
 -- what a line gave, with the theory after it
-abbrev pub opened : {M : Type 0} → Option Stage → M → Option (Opened M)
-opened (Some s) m = Some (s, m)
-opened None m = None
+abbrev pub opened : Option Stage → Held → Option Opened
+opened (Some s) t = Some (s, t)
+opened None t = None
 
 -- a stage is reached with a theory, unless that was refused
-abbrev pub reached : {U M : Type 0} → Stage → Result U FillRefusal → M → Option (Opened M)
-reached s (Ok u) m = Some (s, m)
-reached s (Err e) m = None
-
--- the first flag or variable makes the theory
-abbrev pub begun : {M : Type 0} → Result M FillRefusal → Option (Opened M)
-begun (Ok m) = Some (Variables, m)
-begun (Err e) = None
-
--- a name and nothing after it
-abbrev pub only : Naming → Option (List ℕ)
-only None = None
-only (Some n) = whole n.0 n.1
+abbrev pub reached : Stage → Option Held → Option Opened
+reached s (Some t) = Some (s, t)
+reached s None = None
 
 -- the heading stands first
 abbrev pub heading_stage : Stage → Option Stage
@@ -41,46 +30,47 @@ heading_stage Headed = None
 heading_stage Variables = None
 heading_stage Atoms = None
 
--- nothing follows the heading
-abbrev pub whole_heading : {M : Type 0} → Option Stage → M → (rest : List ℕ) → Option (Opened M)
-whole_heading stage m [] = opened stage m
-whole_heading stage m (b ∷ bs) = None
+-- a variable follows the heading, and makes the theory, or another variable
+abbrev pub variable_line : Stage → Held → (text : List ℕ) → Option Opened
+variable_line Start t text = None
+variable_line Headed t text = reached Variables (begun t text)
+variable_line Variables t text = reached Variables (variable_added t text)
+variable_line Atoms t text = None
 
--- a flag follows the heading or another flag
-abbrev pub flag_read : Stage → FlagsModel → (name : List ℕ) → Option (Opened FlagsModel)
-flag_read Start m name = None
-flag_read Headed m name = begun (started name)
-flag_read Variables m name = reached Variables (flag_answer m name) (flag_leaves m name)
-flag_read Atoms m name = None
-
--- an atom follows a flag or another atom
-abbrev pub atom_read : Stage → FlagsModel → (name : List ℕ) → Option (Opened FlagsModel)
-atom_read Start m name = None
-atom_read Headed m name = None
-atom_read Variables m name = reached Atoms (atom_answer m name) (atom_leaves m name)
-atom_read Atoms m name = reached Atoms (atom_answer m name) (atom_leaves m name)
-
--- the line of a flag has one name
-abbrev pub flag_line : Stage → FlagsModel → (text : List ℕ) → Option (Opened FlagsModel)
-flag_line stage m text = and_text (only (name_read text)) (flag_read stage m)
-
--- the line of an atom has one name
-abbrev pub atom_line : Stage → FlagsModel → (text : List ℕ) → Option (Opened FlagsModel)
-atom_line stage m text = and_text (only (name_read text)) (atom_read stage m)
+-- an atom follows a variable or another atom
+abbrev pub atom_line : Stage → Held → (text : List ℕ) → Option Opened
+atom_line Start t text = None
+atom_line Headed t text = None
+atom_line Variables t text = reached Atoms (atom_added t text)
+atom_line Atoms t text = reached Atoms (atom_added t text)
 
 -- what follows a head, or else
 abbrev pub by_head : {X : Type 0} → Option (List ℕ) → (List ℕ → Option X) → Option X → Option X
 by_head (Some rest) f else = f rest
 by_head None f else = else
 
--- a line before the rules: v NAME, a NAME or flags
-abbrev pub declaration_read : Opened FlagsModel → (line : List ℕ) → Option (Opened FlagsModel)
-declaration_read s line =
-    by_head (behind (118 ∷ 32 ∷ []) line) (flag_line s.0 s.1)
-    (by_head (behind (97 ∷ 32 ∷ []) line) (atom_line s.0 s.1)
-    (by_head (behind (102 ∷ 108 ∷ 97 ∷ 103 ∷ 115 ∷ []) line) (whole_heading (heading_stage s.0) s.1) None))
+-- the heading that a line is
+abbrev pub heading_of : (line : List ℕ) → Option Heading
+heading_of line =
+    by_head (behind (102 ∷ 108 ∷ 97 ∷ 103 ∷ 115 ∷ []) line) (whole Flags)
+    (by_head (behind (110 ∷ 117 ∷ 109 ∷ 98 ∷ 101 ∷ 114 ∷ 115 ∷ []) line) (whole Numbers) None)
 
--- at least one flag or variable was named before the lines end; else the end is the wrong place
+-- the heading of the theory stands first
+abbrev pub under : Heading → Option Heading → Stage → Option Stage
+under Flags (Some Flags) s = heading_stage s
+under Flags (Some Numbers) s = None
+under Numbers (Some Flags) s = None
+under Numbers (Some Numbers) s = heading_stage s
+under h None s = None
+
+-- a line before the rules: v VARIABLE, a ATOM or the heading
+abbrev pub declaration_read : Opened → (line : List ℕ) → Option Opened
+declaration_read s line =
+    by_head (behind (118 ∷ 32 ∷ []) line) (variable_line s.0 s.1)
+    (by_head (behind (97 ∷ 32 ∷ []) line) (atom_line s.0 s.1)
+    (opened (under (heading_in s.1) (heading_of line) s.0) s.1))
+
+-- at least one variable was named before the lines end; else the end is the wrong place
 abbrev pub ended_at : (end : ℕ) → Stage → Result (Unit {0}) ℕ
 ended_at end Start = Err end
 ended_at end Headed = Err end
@@ -88,10 +78,10 @@ ended_at end Variables = Ok tt
 ended_at end Atoms = Ok tt
 
 -- the theory at the end of the lines
-abbrev pub whole_opening : {M : Type 0} → (end : ℕ) → Result (Opened M) ℕ → Result M ℕ
+abbrev pub whole_opening : (end : ℕ) → Result Opened ℕ → Result Held ℕ
 whole_opening end (Err place) = Err place
 whole_opening end (Ok s) = section (ended_at end s.0) s.1
 
--- the lines of an opening, from place 0 on, that starts with some flags
-abbrev pub opening_read : (opening : List ℕ) → FlagsModel → Result FlagsModel ℕ
-opening_read bs m = whole_opening (length bs) (lines_read declaration_read 0 (lines_of bs) (Start, m))
+-- the lines of an opening, from place 0 on, that starts with some theory
+abbrev pub opening_read : (opening : List ℕ) → Held → Result Held ℕ
+opening_read bs t = whole_opening (length bs) (lines_read declaration_read 0 (lines_of bs) (Start, t))

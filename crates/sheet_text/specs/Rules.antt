@@ -7,11 +7,6 @@ use Rattle.items.specs.Trailers.{and_text}
 use Rattle.formula_text.specs.Formulas.{Outcome, stopped, found, formula_read}
 use Rattle.sheet_text.specs.Lines.{lines_read}
 
--- what a line gave, with what the draft holds after it
-abbrev pub ruled : Option (Unit {0}) → Contents → Option Contents
-ruled (Some u) b = Some b
-ruled None b = None
-
 -- what a call leaves, unless it was refused
 abbrev pub unless_refused : Result (Unit {0}) Refusal → Contents → Option Contents
 unless_refused (Ok u) b = Some b

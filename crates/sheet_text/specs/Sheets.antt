@@ -1,21 +1,19 @@
 -- A sheet: which texts are sheets, and what reading one answers and leaves.
-use Rattle.std.specs.Prelude.{ℕ, ◌-◌, ◌^◌, Bool, true, cond, ◌&&◌, ◌||◌, List, [], ◌∷◌, length, take, Some, None, Ok, Err, Option, Result, ◌==◌, nat_le, slice_index, slice_range}
+use Rattle.std.specs.Prelude.{ℕ, ◌-◌, Bool, true, cond, ◌&&◌, ◌||◌, List, [], ◌∷◌, length, take, Some, None, Ok, Err, Option, Result, ◌==◌, nat_le, slice_index, slice_range}
 use Rattle.refusal.specs.declared.SheetRefusal.{SheetRefusal}
 use Rattle.refusal.specs.declared.SheetRefusal.TheVariants.{Bytes, Trailer, Opening, Rule, Note}
 use Rattle.flags.specs.Model.{FlagsModel}
 use Rattle.flags.specs.Filling.{fresh_flags}
 use Rattle.numbers.specs.Model.{NumbersModel}
-use Rattle.numbers.specs.Values.{combinations}
 use Rattle.numbers.specs.Filling.{fresh_numbers}
-use Rattle.ltlf.specs.Contents.{Contents, empty, counts_leave}
-use Rattle.items.specs.Lines.{line_length, behind, last_start}
-use Rattle.items.specs.Trailers.{whole, trailer_in}
-use Rattle.sheet_text.specs.Opening.{by_head, opening_read}
-use Rattle.sheet_text.specs.NumberOpening.{number_opening_read}
+use Rattle.ltlf.specs.Contents.{Contents, empty}
+use Rattle.items.specs.Lines.{line_length, last_start}
+use Rattle.items.specs.Trailers.{trailer_in}
+use Rattle.sheet_text.specs.Held.{Held, heading_in, fresh, flags_in, numbers_in, counted, note_by}
+use Rattle.sheet_text.specs.Opening.{heading_of, opening_read}
 use Rattle.sheet_text.specs.Rules.{rules_read}
-use Rattle.sheet_text.specs.Notes.{Noted, note_read, number_note_read, notes_read}
+use Rattle.sheet_text.specs.Notes.{Noted, notes_read}
 use Rattle.sheet_text.specs.declared.heading.Heading.{Heading}
-use Rattle.sheet_text.specs.declared.heading.Heading.TheVariants.{Flags, Numbers}
 use Rattle.sheet_text.specs.declared.heading.Sheet.{Sheet}
 
 -- a byte of a sheet is a line end, or a space, or visible
@@ -56,14 +54,6 @@ abbrev pub settled : Result Sheet SheetRefusal → Contents → FlagsModel → N
 settled (Ok s) b m k visits = after (Ok s) b m k visits
 settled (Err e) b m k visits = refused e visits
 
--- an empty draft with the counts of the flags
-abbrev pub counted : FlagsModel → Contents
-counted m = counts_leave (empty 0 0) (2 ^ length m.names) (length m.atoms)
-
--- an empty draft with the counts of the numbers
-abbrev pub counted_numbers : NumbersModel → Contents
-counted_numbers k = counts_leave (empty 0 0) (combinations k.variables) (length k.atoms)
-
 -- after the notes: an accepted sheet, or the place of the first wrong note
 abbrev pub after_notes : Heading → Contents → FlagsModel → NumbersModel → Noted → After
 after_notes h b m k (Ok notes, visits) = accepted h notes b m k visits
@@ -75,34 +65,20 @@ after_rules (Ok b) visits f = f b
 after_rules (Err place) visits f = refused (Rule place) visits
 
 -- after the opening: the rules, or the place of its first wrong line
-abbrev pub after_opening : {M : Type 0} → Result M ℕ → (visits : List ℕ) → (M → After) → After
-after_opening (Ok m) visits f = f m
+abbrev pub after_opening : Result Held ℕ → (visits : List ℕ) → (Held → After) → After
+after_opening (Ok t) visits f = f t
 after_opening (Err place) visits f = refused (Opening place) visits
 
--- a flags sheet: the opening up to the rules, the rules up to the notes, and the notes up to the trailer; the first wrong line is refused
-abbrev pub flag_sections : (bytes : List ℕ) → (own rules notes : ℕ) → (visits : List ℕ) → After
-flag_sections bytes own r n visits =
-    after_opening (opening_read (take r bytes) fresh_flags) visits (λ m.
-    after_rules (rules_read r (slice_range bytes r n) (counted m)) visits (λ b.
-    after_notes Flags b m fresh_numbers (notes_read (note_read (length m.names)) n (slice_range bytes n own) visits)))
-
--- a number sheet, likewise
-abbrev pub number_sections : (bytes : List ℕ) → (own rules notes : ℕ) → (visits : List ℕ) → After
-number_sections bytes own r n visits =
-    after_opening (number_opening_read (take r bytes) fresh_numbers) visits (λ k.
-    after_rules (rules_read r (slice_range bytes r n) (counted_numbers k)) visits (λ b.
-    after_notes Numbers b fresh_flags k (notes_read (number_note_read k.variables) n (slice_range bytes n own) visits)))
-
--- the heading that a line is
-abbrev pub heading_of : (line : List ℕ) → Option Heading
-heading_of line =
-    by_head (behind (102 ∷ 108 ∷ 97 ∷ 103 ∷ 115 ∷ []) line) (whole Flags)
-    (by_head (behind (110 ∷ 117 ∷ 109 ∷ 98 ∷ 101 ∷ 114 ∷ 115 ∷ []) line) (whole Numbers) None)
+-- a sheet that fills a theory: the opening up to the rules, the rules up to the notes, and the notes up to the trailer; the first wrong line is refused
+abbrev pub sections_of : Held → (bytes : List ℕ) → (own rules notes : ℕ) → (visits : List ℕ) → After
+sections_of t bytes own r n visits =
+    after_opening (opening_read (take r bytes) t) visits (λ t.
+    after_rules (rules_read r (slice_range bytes r n) (counted t)) visits (λ b.
+    after_notes (heading_in t) b (flags_in t) (numbers_in t) (notes_read (note_by t) n (slice_range bytes n own) visits)))
 
 -- the sections by the heading, or 12 at the first line where it is none
 abbrev pub by_heading : Option Heading → (bytes : List ℕ) → (own rules notes : ℕ) → (visits : List ℕ) → After
-by_heading (Some Flags) bytes own r n visits = flag_sections bytes own r n visits
-by_heading (Some Numbers) bytes own r n visits = number_sections bytes own r n visits
+by_heading (Some h) bytes own r n visits = sections_of (fresh h) bytes own r n visits
 by_heading None bytes own r n visits = refused (Opening 0) visits
 
 -- the first line decides which sheet it is

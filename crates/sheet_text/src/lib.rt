@@ -3,9 +3,12 @@
 // Promises: what a sheet answers and leaves is what the definition in specs/ says, for every text, refusals included.
 #![tactic(auto)]
 
+mod filled;
+mod flag_sheets;
 mod heading;
+mod lines;
 mod notes;
-mod number_opening;
+mod number_sheets;
 mod opening;
 mod rules;
 mod sections;

@@ -1,37 +1,27 @@
 // The lines of rules.
-ghost use Rattle.std.specs.Prelude.{◌≡◌, ℕ, ◌-◌, ◌≤◌, length};
+ghost use Rattle.std.specs.Prelude.{◌≡◌, ℕ, length};
 ghost use Rattle.ltlf.specs.Contents.{draft_contents};
-ghost use Rattle.sheet_text.specs.Lines.{section};
-ghost use Rattle.sheet_text.specs.Rules.{ruled, rule_named, rule_text, rule_read, rules_read};
+ghost use Rattle.sheet_text.specs.Lines.{left_by, lines_left, placed_read, section};
+ghost use Rattle.sheet_text.specs.Rules.{rule_text, rule_read};
 
+use super::lines::Lines;
 use formula_text::read_formula;
-use items::split_line;
 use ltlf::Draft;
 
 /// Reads a formula that is all of a text, and names it a rule.
 fn rule_formula(draft: &mut Draft, text: &[u8]) -> Option<()>
-    ensures { ruled result (draft_contents draft.new) ≡ rule_text (draft_contents draft.old) text.now }
+    ensures { left_by result (draft_contents draft.new) ≡ rule_text (draft_contents draft.old) text.now }
 {
     let parsed = read_formula(draft, text)?;
     match parsed.rest {
-        [] => name(draft, parsed.formula),
+        [] => draft.name_rule(parsed.formula).ok(),
         _ => None,
-    }
-}
-
-/// Names a formula a rule.
-fn name(draft: &mut Draft, formula: u8) -> Option<()>
-    ensures { ruled result (draft_contents draft.new) ≡ rule_named (draft_contents draft.old) formula }
-{
-    match draft.name_rule(formula) {
-        Ok(_) => Some(()),
-        Err(_) => None,
     }
 }
 
 /// Reads the line of a rule.
 fn rule(draft: &mut Draft, line: &[u8]) -> Option<()>
-    ensures { ruled result (draft_contents draft.new) ≡ rule_read (draft_contents draft.old) line.now }
+    ensures { left_by result (draft_contents draft.new) ≡ rule_read (draft_contents draft.old) line.now }
 {
     match line {
         [b'r', b' ', rest @ ..] => rule_formula(draft, rest),
@@ -39,18 +29,12 @@ fn rule(draft: &mut Draft, line: &[u8]) -> Option<()>
     }
 }
 
-/// Reads the rules, which end at place `end`; the place of the first wrong line, if there is one.
-pub(crate) fn read_rules(draft: &mut Draft, text: &[u8], end: usize) -> Result<(), usize>
-    requires { length text.now ≤ end }
-    ensures { section result (draft_contents draft.new) ≡ rules_read (end - length text.now) text.now (draft_contents draft.old) }
+/// Reads the rules; the place of the first wrong line, if there is one.
+pub(crate) fn read_rules(draft: &mut Draft, lines: Lines) -> Result<(), usize>
+    ensures { section result (draft_contents draft.new) ≡ placed_read rule_read (lines_left lines.entry) (draft_contents draft.old) }
 {
-    let mut rest = text;
-    while !rest.is_empty() {
-        let line = split_line(rest);
-        let Some(_) = rule(draft, line.bytes) else {
-            return Err(end - rest.len());
-        };
-        rest = line.rest;
+    for (place, line) in lines {
+        rule(draft, line).ok_or(place)?;
     }
     Ok(())
 }

@@ -1,114 +1,48 @@
 // The three sections of a sheet, by the places that its trailer names.
-ghost use Rattle.std.specs.Prelude.{◌≡◌, ℕ, ◌-◌, ◌<◌, ◌≤◌, length};
-ghost use Rattle.ltlf.specs.Contents.{draft_contents};
-ghost use Rattle.flags.specs.Model.{flags_of};
-ghost use Rattle.numbers.specs.Model.{numbers_of};
-ghost use Rattle.sheet_text.specs.Sheets.{settled, counted, counted_numbers, flag_sections, number_sections};
+ghost use Rattle.std.specs.Prelude.{◌≡◌, ℕ, length};
+ghost use Rattle.ltlf.specs.Contents.{draft_contents, empty, counts_leave};
+ghost use Rattle.sheet_text.specs.Held.{flags_in, numbers_in};
+ghost use Rattle.sheet_text.specs.Sheets.{settled, sections_of};
 
-use super::heading::{Heading, Sheet};
+use super::filled::Filled;
+use super::heading::Sheet;
+use super::lines::Lines;
 use super::notes::read_notes;
-use super::number_opening::read_number_opening;
 use super::opening::read_opening;
 use super::rules::read_rules;
-use flags::Flags;
 use items::Trailer;
 use ltlf::Draft;
-use numbers::Numbers;
 use refusal::SheetRefusal;
 use theory::Theory;
 
-/// Empties the draft and sets its counts to those of the flags.
-fn start_flags(draft: &mut Draft, flags: &Flags)
-    ensures { draft_contents draft.new ≡ counted (flags_of flags.now) }
+/// Empties the draft and sets its counts to those of the theory.
+fn start<T: Theory>(draft: &mut Draft, theory: &T)
+    ensures { draft_contents draft.new ≡ counts_leave (empty 0 0) (T.meaning theory.now).codes (T.meaning theory.now).atoms }
 {
     *draft = Draft::new();
-    let _ = draft.set_counts(flags.code_count(), flags.atom_count());
+    let _ = draft.set_counts(theory.code_count(), theory.atom_count());
 }
 
-/// Reads the sections of a flags sheet whose trailer stands at `own`.
-pub(crate) fn read_flag_sections(
+/// Reads the sections of a sheet that fills a theory, and whose trailer stands at `own`.
+pub(crate) fn read_sections<T: Filled>(
     bytes: &[u8],
     own: usize,
     trailer: Trailer,
     draft: &mut Draft,
-    flags: &mut Flags,
-    numbers: &mut Numbers,
+    theory: &mut T,
     visits: &mut [u16],
 ) -> Result<Sheet, SheetRefusal>
-    requires { (trailer.rules ≤ trailer.notes) × ((trailer.notes ≤ own) × (own < length bytes.now)) }
-    ensures { settled result (draft_contents draft.new) (flags_of flags.new) (numbers_of numbers.new) visits.new ≡ flag_sections bytes.now own trailer.rules trailer.notes visits.old }
+    ensures { settled result (draft_contents draft.new) (flags_in (T.held theory.new)) (numbers_in (T.held theory.new)) visits.new ≡ sections_of (T.held theory.old) bytes.now own trailer.rules trailer.notes visits.old }
 {
-    let rules = trailer.rules;
-    let notes = trailer.notes;
-    *flags = Flags::fresh();
-    *numbers = Numbers::fresh();
-    if let Err(place) = read_opening(flags, &bytes[0..rules]) {
-        return Err(SheetRefusal::Opening(place));
-    }
-    start_flags(draft, flags);
-    if let Err(place) = read_rules(draft, &bytes[rules..notes], notes) {
-        return Err(SheetRefusal::Rule(place));
-    }
-    match read_notes(
-        &bytes[notes..own],
-        own,
-        Heading::Flags,
-        flags,
-        numbers,
-        visits,
-    ) {
-        Ok(count) => Ok(Sheet {
-            heading: Heading::Flags,
-            notes: count,
-        }),
-        Err(place) => Err(SheetRefusal::Note(place)),
-    }
-}
-
-/// Empties the draft and sets its counts to those of the numbers.
-fn start_numbers(draft: &mut Draft, numbers: &Numbers)
-    ensures { draft_contents draft.new ≡ counted_numbers (numbers_of numbers.now) }
-{
-    *draft = Draft::new();
-    let _ = draft.set_counts(numbers.code_count(), numbers.atom_count());
-}
-
-/// Reads the sections of a number sheet whose trailer stands at `own`.
-pub(crate) fn read_number_sections(
-    bytes: &[u8],
-    own: usize,
-    trailer: Trailer,
-    draft: &mut Draft,
-    flags: &mut Flags,
-    numbers: &mut Numbers,
-    visits: &mut [u16],
-) -> Result<Sheet, SheetRefusal>
-    requires { (trailer.rules ≤ trailer.notes) × ((trailer.notes ≤ own) × (own < length bytes.now)) }
-    ensures { settled result (draft_contents draft.new) (flags_of flags.new) (numbers_of numbers.new) visits.new ≡ number_sections bytes.now own trailer.rules trailer.notes visits.old }
-{
-    let rules = trailer.rules;
-    let notes = trailer.notes;
-    *flags = Flags::fresh();
-    *numbers = Numbers::fresh();
-    if let Err(place) = read_number_opening(numbers, &bytes[0..rules]) {
-        return Err(SheetRefusal::Opening(place));
-    }
-    start_numbers(draft, numbers);
-    if let Err(place) = read_rules(draft, &bytes[rules..notes], notes) {
-        return Err(SheetRefusal::Rule(place));
-    }
-    match read_notes(
-        &bytes[notes..own],
-        own,
-        Heading::Numbers,
-        flags,
-        numbers,
-        visits,
-    ) {
-        Ok(count) => Ok(Sheet {
-            heading: Heading::Numbers,
-            notes: count,
-        }),
-        Err(place) => Err(SheetRefusal::Note(place)),
-    }
+    let opening = Lines::between(bytes, 0, trailer.rules);
+    let rules = Lines::between(bytes, trailer.rules, trailer.notes);
+    let notes = Lines::between(bytes, trailer.notes, own);
+    read_opening(theory, opening).map_err(SheetRefusal::Opening)?;
+    start(draft, theory);
+    read_rules(draft, rules).map_err(SheetRefusal::Rule)?;
+    let notes = read_notes(theory, notes, visits).map_err(SheetRefusal::Note)?;
+    Ok(Sheet {
+        heading: theory.heading(),
+        notes,
+    })
 }

@@ -3,12 +3,13 @@ ghost use Rattle.std.specs.Prelude.{◌≡◌, ℕ, ◌-◌, ◌<◌, ◌≤◌,
 ghost use Rattle.ltlf.specs.Contents.{draft_contents};
 ghost use Rattle.flags.specs.Model.{flags_of};
 ghost use Rattle.numbers.specs.Model.{numbers_of};
-ghost use Rattle.sheet_text.specs.Sheets.{sheet_byte, sheet_bytes, passes_as_text, after, settled, heading_of, sections_read, sheet_read};
+ghost use Rattle.sheet_text.specs.Sheets.{sheet_byte, sheet_bytes, passes_as_text, after, settled, sheet_read};
 
 use super::heading::{Heading, Sheet};
-use super::sections::{read_flag_sections, read_number_sections};
+use super::opening::heading_of;
+use super::sections::read_sections;
 use flags::Flags;
-use items::{Trailer, last_line, split_line, trailer_of};
+use items::{last_line, split_line, trailer_of};
 use ltlf::Draft;
 use numbers::Numbers;
 use refusal::SheetRefusal;
@@ -42,41 +43,6 @@ fn is_sheet_text(bytes: &[u8]) -> bool
         && bytes[bytes.len() - 1] == b'\n'
 }
 
-/// The heading that a line is.
-fn heading_of(line: &[u8]) -> Option<Heading>
-    ensures { result ≡ heading_of line.now }
-{
-    match line {
-        [b'f', b'l', b'a', b'g', b's'] => Some(Heading::Flags),
-        [b'n', b'u', b'm', b'b', b'e', b'r', b's'] => Some(Heading::Numbers),
-        _ => None,
-    }
-}
-
-/// Reads the sections of a sheet whose trailer stands at `own`, by its heading.
-fn read_sections(
-    bytes: &[u8],
-    own: usize,
-    trailer: Trailer,
-    draft: &mut Draft,
-    flags: &mut Flags,
-    numbers: &mut Numbers,
-    visits: &mut [u16],
-) -> Result<Sheet, SheetRefusal>
-    requires { (trailer.rules ≤ trailer.notes) × ((trailer.notes ≤ own) × (own < length bytes.now)) }
-    ensures { settled result (draft_contents draft.new) (flags_of flags.new) (numbers_of numbers.new) visits.new ≡ sections_read bytes.now own trailer.rules trailer.notes visits.old }
-{
-    match heading_of(split_line(bytes).bytes) {
-        Some(Heading::Flags) => {
-            read_flag_sections(bytes, own, trailer, draft, flags, numbers, visits)
-        }
-        Some(Heading::Numbers) => {
-            read_number_sections(bytes, own, trailer, draft, flags, numbers, visits)
-        }
-        None => Err(SheetRefusal::Opening(0)),
-    }
-}
-
 /// Reads a sheet, and leaves anything in the draft, the flags and the numbers where it is refused.
 fn read_text(
     bytes: &[u8],
@@ -91,9 +57,13 @@ fn read_text(
         return Err(SheetRefusal::Bytes);
     }
     let own = last_line(bytes);
-    match trailer_of(bytes) {
-        Some(trailer) => read_sections(bytes, own, trailer, draft, flags, numbers, visits),
-        None => Err(SheetRefusal::Trailer(own)),
+    let trailer = trailer_of(bytes).ok_or(SheetRefusal::Trailer(own))?;
+    let heading = heading_of(split_line(bytes).bytes).ok_or(SheetRefusal::Opening(0))?;
+    *flags = Flags::fresh();
+    *numbers = Numbers::fresh();
+    match heading {
+        Heading::Flags => read_sections(bytes, own, trailer, draft, flags, visits),
+        Heading::Numbers => read_sections(bytes, own, trailer, draft, numbers, visits),
     }
 }
 

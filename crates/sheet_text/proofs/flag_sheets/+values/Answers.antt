@@ -1,6 +1,6 @@
 use Rattle.std.proofs.Common.{arith}
 use Rattle.sheet_text.proofs.Values.{no_bit, no_space, no_others, all_values, doubled}
-use Rattle.sheet_text.proofs.notes.+values.Goals as goal
+use Rattle.sheet_text.proofs.flag_sheets.+values.Goals as goal
 
 pub returns-in_err-bit : goal.returns-in_err-bit
 returns-in_err-bit t c = rw c.from_residual.ensures (record { read = no_bit c.args.flags c.args.text.now (omega arith) c.in_err-bit.ensures.read; below = tt })
