@@ -1,20 +1,9 @@
--- What a report shows of what the judge and a question answered.
-use Rattle.std.specs.Prelude.{ℕ, List, [], take, Ok, Err, Result}
-use Rattle.judge.specs.declared.judgement.Judgement.{Judgement}
-use Rattle.judge.specs.declared.judgement.Judgement.TheVariants.{Met, Unmet}
-use Rattle.refusal.specs.declared.Refusal.{Refusal}
-use Rattle.report.specs.declared.standing.Standing.{Standing}
-use Rattle.report.specs.declared.standing.Standing.TheVariants.{Yes, No, Unvisited}
+-- What a report shows of what a question answered.
+use Rattle.std.specs.Prelude.{ℕ, List, [], take}
 use Rattle.report.specs.declared.verdict.Verdict.{Verdict}
 use Rattle.report.specs.declared.verdict.Verdict.TheVariants as verdict
 use Rattle.search.specs.declared.outcome.Outcome.{Outcome}
 use Rattle.search.specs.declared.outcome.Outcome.TheVariants as outcome
-
--- yes where the history meets the rules, no where it does not, and unvisited where there was none to judge
-abbrev pub standing_of : Result Judgement Refusal → Standing
-standing_of (Ok Met) = Yes
-standing_of (Ok Unmet) = No
-standing_of (Err e) = Unvisited
 
 -- the verdict, with the length of the history under can
 abbrev pub verdict_of : Outcome → Verdict

@@ -1,25 +1,14 @@
-// What a report shows of a judgement and of an answered question. Rests on `judge`, `search` and `report`.
+// What a report shows of an answered question. Rests on `search` and `report`.
 // Promises: each is what the definition in specs/ says of the answer.
 #![tactic(auto)]
 
-ghost use Rattle.std.specs.Prelude.{◌≡◌, take};
-ghost use Rattle.answer.specs.Shown.{standing_of, verdict_of, rows_of, shown};
+ghost use Rattle.std.specs.Prelude.{◌≡◌};
+ghost use Rattle.answer.specs.Shown.{verdict_of, rows_of, shown};
 
-use judge::Judgement;
-use refusal::Refusal;
-use report::{Standing, Verdict};
+use report::Verdict;
 use search::Outcome;
 
-/// The word for what the judge answered of the kept visits; a refusal of an accepted sheet's visits says that there are none.
-pub fn standing_of(judged: Result<Judgement, Refusal>) -> Standing
-    ensures { result ≡ standing_of judged }
-{
-    match judged {
-        Ok(Judgement::Met) => Standing::Yes,
-        Ok(Judgement::Unmet) => Standing::No,
-        Err(_) => Standing::Unvisited,
-    }
-}
+// Each conversion stays a function: `From` may stand only in the crate of the outcome or of the verdict.
 
 /// The verdict of an outcome.
 pub fn verdict_of(outcome: Outcome) -> Verdict
@@ -37,20 +26,9 @@ pub fn rows_of(outcome: Outcome) -> u64
     ensures { result ≡ rows_of outcome }
 {
     match outcome {
-        Outcome::Can { length: _, rows } => rows as u64,
-        Outcome::Cannot { rows } => rows as u64,
-        Outcome::Short { rows } => rows as u64,
-    }
-}
-
-/// The first entries of a list, or all of them where there are fewer.
-fn first_entries(entries: &[u16], count: usize) -> &[u16]
-    ensures { result.now ≡ take count entries.now }
-{
-    if count < entries.len() {
-        &entries[0..count]
-    } else {
-        entries
+        Outcome::Can { length: _, rows } | Outcome::Cannot { rows } | Outcome::Short { rows } => {
+            rows as u64
+        }
     }
 }
 
@@ -59,8 +37,7 @@ pub fn history_of(outcome: Outcome, history: &[u16]) -> &[u16]
     ensures { result.now ≡ shown outcome history.now }
 {
     match outcome {
-        Outcome::Can { length, rows: _ } => first_entries(history, length),
-        Outcome::Cannot { rows: _ } => first_entries(history, 0),
-        Outcome::Short { rows: _ } => first_entries(history, 0),
+        Outcome::Can { length, rows: _ } => &history[..length.min(history.len())],
+        Outcome::Cannot { .. } | Outcome::Short { .. } => &[],
     }
 }

@@ -17,7 +17,7 @@ pub record SyncModel : Type 0 where
   pub taken : RecordModel
   pub held : ℕ
 
--- what a record holds
+-- What a record holds: its fields, which no bound relates to the others. Clauses above name it, so a view of its own would say it twice.
 abbrev pub record_model : Record → RecordModel
 record_model r = record { codes = r.codes; atoms = r.atoms; kept = r.kept }
 

@@ -35,12 +35,9 @@ impl Sync {
     pub fn confirm(self) -> Record
         ensures { record_model result ≡ confirmed (sync_model self) }
     {
-        let Sync { taken, held } = self;
-        Record {
-            codes: taken.codes,
-            atoms: taken.atoms,
-            kept: held,
-        }
+        let Sync { mut taken, held } = self;
+        taken.kept = held;
+        taken
     }
 
     /// Ends the sync: gives the record back as it was, with the old kept count.

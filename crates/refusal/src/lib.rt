@@ -9,23 +9,23 @@ ghost use Rattle.refusal.specs.Numbers.{number_of, fill_number, sheet_number, sh
 #[derive(Clone, Copy, PartialEq, Eq, Debug, Drop)]
 pub enum Refusal {
     /// 1: a draft's count of codes outside 1 to 4,096, or of atoms over 32.
-    CountsOutOfRange,
+    CountsOutOfRange = 1,
     /// 2: an atom that does not exist, or a formula that was not put.
-    Unknown,
+    Unknown = 2,
     /// 3: a 65th distinct formula.
-    TooManyFormulas,
+    TooManyFormulas = 3,
     /// 4: a code that does not exist.
-    NoSuchCode,
+    NoSuchCode = 4,
     /// 5: a note past the visit list's end, or past 1,024 visits.
-    ListFull,
+    ListFull = 5,
     /// 6: no visit is kept.
-    NothingKept,
+    NothingKept = 6,
     /// 7: the counts of record, book and theory differ.
-    CountsDiffer,
+    CountsDiffer = 7,
     /// 8: the visit list is shorter than the kept count, or a kept entry is no code.
-    BadVisitList,
+    BadVisitList = 8,
     /// 9: too many rows, a history list shorter than the rows, or a print buffer under 64 bytes.
-    BadBuffer,
+    BadBuffer = 9,
 }
 
 impl Refusal {
@@ -33,17 +33,7 @@ impl Refusal {
     pub fn number(self) -> u8
         ensures { result ≡ number_of self }
     {
-        match self {
-            Refusal::CountsOutOfRange => 1,
-            Refusal::Unknown => 2,
-            Refusal::TooManyFormulas => 3,
-            Refusal::NoSuchCode => 4,
-            Refusal::ListFull => 5,
-            Refusal::NothingKept => 6,
-            Refusal::CountsDiffer => 7,
-            Refusal::BadVisitList => 8,
-            Refusal::BadBuffer => 9,
-        }
+        self as u8
     }
 }
 
@@ -62,8 +52,7 @@ impl FillRefusal {
         ensures { result ≡ fill_number self }
     {
         match self {
-            FillRefusal::Variable => 12,
-            FillRefusal::Atom => 12,
+            FillRefusal::Variable | FillRefusal::Atom => 12,
         }
     }
 }
@@ -103,10 +92,10 @@ impl SheetRefusal {
     {
         match self {
             SheetRefusal::Bytes => 0,
-            SheetRefusal::Trailer(place) => place,
-            SheetRefusal::Opening(place) => place,
-            SheetRefusal::Rule(place) => place,
-            SheetRefusal::Note(place) => place,
+            SheetRefusal::Trailer(place)
+            | SheetRefusal::Opening(place)
+            | SheetRefusal::Rule(place)
+            | SheetRefusal::Note(place) => place,
         }
     }
 }

@@ -1,9 +1,11 @@
 ghost use Rattle.std.specs.Prelude.{◌≡◌, length};
 ghost use Rattle.report.specs.Visits.{visit_answer, visit_leaves, visit_text};
 
-use super::append::append;
 use refusal::Refusal;
 use theory::Printable;
+
+/// The most bytes that the line of a visit takes.
+const VISIT_ROOM: usize = 67;
 
 /// Writes `n VALUES`, the values of a visit's code.
 ///
@@ -14,10 +16,11 @@ pub fn visit_line<T: Printable>(out: &mut [u8], theory: &T, code: u16) -> Result
 {
     let mut values = [0u8; 64];
     let length = theory.print(code, &mut values)?;
-    if out.len() < 67 {
+    if out.len() < VISIT_ROOM {
         return Err(Refusal::BadBuffer);
     }
-    let word = append(out, 0, b"n ");
-    let text = append(out, word, &values[0..length]);
-    Ok(append(out, text, b"\n"))
+    out[..2].copy_from_slice(b"n ");
+    out[2..2 + length].copy_from_slice(&values[..length]);
+    out[2 + length] = b'\n';
+    Ok(length + 3)
 }

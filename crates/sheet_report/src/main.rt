@@ -2,7 +2,8 @@
 // It holds no logic of its own: public calls read the sheet, keep its notes, judge them, ask the question and make every line.
 #![tactic(auto)]
 
-use answer::{history_of, rows_of, standing_of, verdict_of};
+use answer::{history_of, rows_of, verdict_of};
+use console::{fill, pass_on, refuse};
 use flags::Flags;
 use household::{question, stands};
 use intern::Cell;
@@ -11,14 +12,12 @@ use numbers::Numbers;
 use record::Record;
 use refusal::Refusal;
 use report::{
-    kept_line, question_refused_line, refused_line, rows_line, stands_line, verdict_line,
-    visit_line,
+    kept_line, question_refused_line, rows_line, stands_line, verdict_line, visit_line,
 };
 use search::{Outcome, Row};
 use sheet_text::read_sheet;
 use sheet_theory::SheetTheory;
 use std::io;
-use std::io::{Read, Write};
 
 // A row that no question has filled.
 const NO_ROW: Row = Row {
@@ -27,32 +26,6 @@ const NO_ROW: Row = Row {
     label: 0,
     from: 0,
 };
-
-/// Fills the buffer from the input, and returns how many bytes came; a longer input is cut.
-fn fill(input: &mut io::Stdin, buffer: &mut [u8]) -> io::Result<usize> {
-    let mut filled: usize = 0;
-    for _ in 0..65537 {
-        if filled >= buffer.len() {
-            break;
-        }
-        let n = input.read(&mut buffer[filled..])?;
-        if n == 0 {
-            break;
-        }
-        filled += n;
-    }
-    Ok(filled)
-}
-
-/// Passes on the first bytes of a line, as many as the call that made it says.
-fn pass_on(out: &mut io::Stdout, line: &[u8], made: Result<usize, Refusal>) -> io::Result<()> {
-    if let Ok(length) = made {
-        if length <= line.len() {
-            out.write_all(&line[0..length])?;
-        }
-    }
-    Ok(())
-}
 
 /// Takes all notes as one sync and confirms it; each note writes its entry of the visit list.
 fn keep_all(record: Record, notes: &[u16], visits: &mut [u16]) -> Record {
@@ -89,8 +62,8 @@ fn write_kept(
     let mut line = [0u8; 64];
     let made = kept_line(&mut line, record.kept() as u64);
     pass_on(out, &line, made)?;
-    let standing = standing_of(stands(record, book, theory, visits));
-    let made = stands_line(&mut line, standing);
+    // Of an accepted sheet's visits only none at all are refused.
+    let made = stands_line(&mut line, stands(record, book, theory, visits).ok());
     pass_on(out, &line, made)
 }
 
@@ -140,17 +113,13 @@ fn run(bytes: &[u8], out: &mut io::Stdout) -> io::Result<()> {
     let mut visits = [0u16; 1024];
     let sheet = match read_sheet(bytes, &mut draft, &mut flags, &mut numbers, &mut visits) {
         Ok(sheet) => sheet,
-        Err(refusal) => {
-            let mut line = [0u8; 64];
-            let made = refused_line(&mut line, refusal);
-            return pass_on(out, &line, made);
-        }
+        Err(refusal) => return refuse(out, refusal),
     };
     let book = draft.seal();
     let theory = SheetTheory::of(sheet.heading, flags, numbers);
     let notes = visits;
     let count = sheet.notes.min(1024);
-    write_report(out, &theory, &book, &notes[0..count], &mut visits)
+    write_report(out, &theory, &book, &notes[..count], &mut visits)
 }
 
 fn main(rt: HostRuntime) -> io::Result<()> {
@@ -158,5 +127,5 @@ fn main(rt: HostRuntime) -> io::Result<()> {
     let mut input = rt.stdin();
     let length = fill(&mut input, &mut buffer)?;
     let mut out = rt.stdout();
-    run(&buffer[0..length.min(65537)], &mut out)
+    run(&buffer[..length], &mut out)
 }

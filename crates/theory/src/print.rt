@@ -5,6 +5,7 @@ ghost use Rattle.writer.specs.Puts.{put_answer, put_leaves};
 
 use super::Theory;
 use refusal::Refusal;
+use writer::put_number;
 
 /// A theory that can write the values of a code.
 pub trait Printable: Theory {
@@ -26,14 +27,12 @@ pub fn put_item(out: &mut [u8], at: usize, value: i32) -> Option<usize>
     ensures after { out.new ≡ put_leaves out.old at (item at value) }
 {
     if at == 0 {
-        return writer::put_signed(out, at, value);
+        return put_number(out, at, value);
     }
     if at >= out.len() {
         return None;
     }
-    let Some(end) = writer::put_signed(out, at + 1, value) else {
-        return None;
-    };
+    let end = put_number(out, at + 1, value)?;
     out[at] = b' ';
     Some(end)
 }

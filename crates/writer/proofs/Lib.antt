@@ -1,4 +1,2 @@
-pub mod Decimals
 pub mod Firsts
 pub mod Puts
-pub mod Signs

@@ -1,35 +1,18 @@
-use Rattle.std.proofs.Common.{◌-◌, ◌≤◌, [], ◌∷◌, take, arith, rules}
+use Rattle.std.proofs.Common.{◌≡◌, ℕ, ◌-◌, ◌+◌, List, [], ◌∷◌, ◌++◌, take, drop, set, sym, ap₂, ◌∙◌, arith}
 use Rattle.theory.specs.Print.{spaced}
-use Rattle.report.proofs.Pieces.{begin, more}
-use Rattle.report.proofs.Visits.{shown, visit_is}
+use Rattle.report.proofs.Visits.{shown, line_put, visit_is}
 use Rattle.report.proofs.visit.visit_line.Goals as goal
 
-pub slice_bounds-append-end-2 : goal.slice_bounds-append-end-2
-slice_bounds-append-end-2 g c =
-    let shows = shown (g.T.Theory.meaning c.args.theory.now).codes c.args.code (spaced (g.T.Printable.values c.args.theory.now c.args.code)) c.print.new.out c.in_ok-length.length c.print.auto.out c.in_ok-length.ensures.answer c.in_ok-length.ensures.after in
-    let few : c.in_ok-length.length ≤ 64 = shows.few in
-    search rules
-
-pub append-text-requires : goal.append-text-requires
-append-text-requires g c =
-    let shows = shown (g.T.Theory.meaning c.args.theory.now).codes c.args.code (spaced (g.T.Printable.values c.args.theory.now c.args.code)) c.print.new.out c.in_ok-length.length c.print.auto.out c.in_ok-length.ensures.answer c.in_ok-length.ensures.after in
-    let few : c.in_ok-length.length ≤ 64 = shows.few in
-    search rules
-
-pub append-requires : goal.append-requires
-append-requires g c =
-    let shows = shown (g.T.Theory.meaning c.args.theory.now).codes c.args.code (spaced (g.T.Printable.values c.args.theory.now c.args.code)) c.print.new.out c.in_ok-length.length c.print.auto.out c.in_ok-length.ensures.answer c.in_ok-length.ensures.after in
-    let few : c.in_ok-length.length ≤ 64 = shows.few in
-    search rules
-
-pub returns : goal.returns
-returns g c =
-    let shows = shown (g.T.Theory.meaning c.args.theory.now).codes c.args.code (spaced (g.T.Printable.values c.args.theory.now c.args.code)) c.print.new.out c.in_ok-length.length c.print.auto.out c.in_ok-length.ensures.answer c.in_ok-length.ensures.after in
+pub returns-clause-after : goal.returns-clause-after
+returns-clause-after g c =
     let bytes = c.args.out.now in
-    let codes = (g.T.Theory.meaning c.args.theory.now).codes in
-    let values = g.T.Printable.values c.args.theory.now c.args.code in
-    let word = begin bytes (110 ∷ 32 ∷ []) c.append-word.ensures.end c.append-word.ensures.after in
-    let text = more bytes (take (c.in_ok-length.length - 0) c.print.new.out) word c.append-text.ensures.end c.append-text.ensures.after in
-    let all = more bytes (10 ∷ []) text c.append.ensures.end c.append.ensures.after in
-    let line = visit_is codes c.args.code bytes values shows.exists (omega arith) shows.values all in
-    record { answer = line.0; after = line.1 }
+    let count = (g.T.Theory.meaning c.args.theory.now).codes in
+    let text = spaced (g.T.Printable.values c.args.theory.now c.args.code) in
+    let n = c.in_ok-length.length in
+    let shows = shown count c.args.code text c.print.new.out n c.print.auto.out c.in_ok-length.ensures.answer c.in_ok-length.ensures.after in
+    let m : ℕ = 2 + n - 2 in
+    let word : c.copy_from_slice.new.self ≡ 110 ∷ 32 ∷ [] = c.copy_from_slice.ensures.after in
+    let piece : c.copy_from_slice-2.new.self ≡ text = c.copy_from_slice-2.ensures.after ∙ shows.values in
+    ap₂ (λ (xs ys : List ℕ). set (take 2 (xs ++ drop 2 bytes) ++ (ys ++ drop m (drop 2 (xs ++ drop 2 bytes)))) (2 + n) 10) word piece
+    ∙ line_put bytes text n m shows.long (omega arith) (omega (arith, shows.few))
+    ∙ sym (visit_is count c.args.code bytes text shows.exists (omega arith))
