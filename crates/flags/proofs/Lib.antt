@@ -1,4 +1,3 @@
 pub mod Limits
-pub mod Filling
 pub mod Atoms
 pub mod Shown

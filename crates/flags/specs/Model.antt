@@ -1,8 +1,7 @@
 -- What a flags theory holds.
-use Rattle.std.specs.Prelude.{◌≡◌, ℕ, ◌<◌, ◌≤◌, true, List, [], map, length, take, slice_index, slice_index_or}
-use Rattle.intern.specs.Index.{items}
+use Rattle.std.specs.Prelude.{◌≡◌, ℕ, ◌<◌, ◌≤◌, true, List, [], length, slice_index, slice_index_or}
 use Rattle.names.specs.Letters.{is_name}
-use Rattle.names.specs.Texts.{text_of}
+use Rattle.names.specs.Rosters.{texts}
 use Rattle.flags.specs.declared.flags.Flags.{Flags}
 
 -- The names of the flags, flag 0 first, and for each atom the number of the flag that it names.
@@ -12,7 +11,7 @@ pub record FlagsModel : Type 0 where
 
 -- the names and atoms that are filled in
 abbrev pub flags_of : Flags → FlagsModel
-flags_of t = record { names = map text_of (items t.names t.count); atoms = take t.used t.atoms }
+flags_of t = record { names = texts t.names; atoms = t.atoms.items }
 
 -- The limits: 1 to 12 flags with different names of 1 to 8 letters, and at most 32 atoms, each naming a flag.
 pub record Within (m : FlagsModel) : Type 0 where

@@ -5,12 +5,9 @@ ghost use Rattle.flags.specs.Filling.{flag_number, one_flag, fresh_flags, seen_f
 ghost use Rattle.flags.specs.Model.{flags_of};
 
 use super::flags::Flags;
-use intern::{Cell, Slot, find, find_or_add};
-use names::Name;
+use arrayvec::ArrayVec;
+use names::{Name, Roster};
 use refusal::FillRefusal;
-
-// The most atoms that a flags theory takes.
-const MOST_ATOMS: u8 = 32;
 
 impl Flags {
     // One flag, and no atom.
@@ -18,10 +15,8 @@ impl Flags {
         ensures { flags_of result ≡ one_flag (text_of name) }
     {
         Flags {
-            names: [Cell::new(name); 12],
-            count: 1,
-            atoms: [0; 32],
-            used: 0,
+            names: Roster::of(name),
+            atoms: ArrayVec::new(),
         }
     }
 
@@ -29,10 +24,7 @@ impl Flags {
     pub fn fresh() -> Flags
         ensures { flags_of result ≡ fresh_flags }
     {
-        match Name::new(b"a") {
-            Some(name) => Flags::of(name),
-            None => unreachable(),
-        }
+        Flags::of(Name::new(b"a").unwrap())
     }
 
     /// One flag with this name, and no atom.
@@ -41,10 +33,7 @@ impl Flags {
     pub fn with_flag(text: &[u8]) -> Result<Flags, FillRefusal>
         ensures { seen_flags result ≡ started text.now }
     {
-        match Name::new(text) {
-            Some(name) => Ok(Flags::of(name)),
-            None => Err(FillRefusal::Variable),
-        }
+        Name::new(text).map(Flags::of).ok_or(FillRefusal::Variable)
     }
 
     /// Adds a flag with this name, as the next bit of a code.
@@ -54,31 +43,17 @@ impl Flags {
         ensures answer { result ≡ flag_answer (flags_of self.old) text.now }
         ensures after { flags_of self.new ≡ flag_leaves (flags_of self.old) text.now }
     {
-        let Some(name) = Name::new(text) else {
-            return Err(FillRefusal::Variable);
-        };
-        match find_or_add(&mut self.names, self.count as usize, name) {
-            Slot::Found(_) => Err(FillRefusal::Variable),
-            Slot::Added(_) => {
-                self.count += 1;
-                Ok(())
-            }
-            Slot::Full => Err(FillRefusal::Variable),
-            Slot::Broken => Err(FillRefusal::Variable),
-        }
+        let name = Name::new(text).ok_or(FillRefusal::Variable)?;
+        self.names.add(name).ok_or(FillRefusal::Variable)?;
+        Ok(())
     }
 
     // The number of the flag with a name.
     fn flag_number(&self, text: &[u8]) -> Option<u8>
         ensures { result ≡ flag_number text.now (flags_of self.now).names }
     {
-        let Some(name) = Name::new(text) else {
-            return None;
-        };
-        match find(&self.names, self.count as usize, name) {
-            Some(number) => Some(number as u8),
-            None => None,
-        }
+        let number = self.names.find(text)?;
+        Some(number as u8)
     }
 
     /// Adds an atom that holds where the flag with this name is set.
@@ -88,14 +63,7 @@ impl Flags {
         ensures answer { result ≡ atom_answer (flags_of self.old) text.now }
         ensures after { flags_of self.new ≡ atom_leaves (flags_of self.old) text.now }
     {
-        let Some(flag) = self.flag_number(text) else {
-            return Err(FillRefusal::Atom);
-        };
-        if self.used >= MOST_ATOMS {
-            return Err(FillRefusal::Atom);
-        }
-        self.atoms[self.used as usize] = flag;
-        self.used += 1;
-        Ok(())
+        let flag = self.flag_number(text).ok_or(FillRefusal::Atom)?;
+        self.atoms.try_push(flag).map_err(|_| FillRefusal::Atom)
     }
 }

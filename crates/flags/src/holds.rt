@@ -25,11 +25,11 @@ impl Theory for Flags {
     }
 
     fn atom_count(&self) -> u8 {
-        self.used
+        self.atoms.len() as u8
     }
 
     fn holds(&self, atom: u8, code: u16, next: Next) -> Result<bool, Refusal> {
-        theory::check_within(self.code_count(), self.used, atom, code, next)?;
+        theory::check_within(self.code_count(), self.atom_count(), atom, code, next)?;
         let flag = self.atoms[atom as usize];
         Ok(bit_of(code, flag))
     }

@@ -20,7 +20,7 @@ impl Printable for Flags {
             return Err(Refusal::BadBuffer);
         }
         let mut at = 0;
-        for i in 0..self.count {
+        for i in 0..self.flag_count() {
             let Some(end) = theory::put_item(out, at, ((code >> i) % 2) as i32) else {
                 unreachable()
             };

@@ -10,6 +10,6 @@ impl Flags {
         ensures answer { result ≡ length (flags_of self.now).names }
         ensures within { Within (flags_of self.now) }
     {
-        self.count
+        self.names.count() as u8
     }
 }

@@ -1,3 +1,4 @@
 pub mod Letters
 pub mod Texts
 pub mod Same
+pub mod Rosters

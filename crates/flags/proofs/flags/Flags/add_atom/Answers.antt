@@ -1,23 +1,13 @@
-use Rattle.std.proofs.Common.{◌∙◌, arith}
-use Rattle.std.proofs.lemmas.List.{length-set}
-use Rattle.flags.proofs.Atoms.{named_more, atom_added}
+use Rattle.std.proofs.Common.{length, sym, ◌∙◌}
+use Rattle.std.specs.Str.{bytes_eq}
+use Rattle.intern.proofs.Slots.{place_below}
+use Rattle.names.specs.Rosters.{texts}
+use Rattle.flags.proofs.Atoms.{pushed}
 use Rattle.flags.proofs.flags.Flags.add_atom.Goals as goal
 
 pub invariant_of-self : goal.invariant_of-self
 invariant_of-self c =
     let t = c.args.self.now in
-    let more = named_more t c.args.text.now c.in-Some.flag c.in-Some.ensures (omega (arith, t.spaced, t.few, c.if-self-ge-MOST_ATOMS.false)) in record {
-      whole = t.whole;
-      some = t.some;
-      most = t.most;
-      indexed = t.indexed;
-      spaced = length-set t.atoms t.used c.in-Some.flag ∙ t.spaced;
-      few = omega (arith, t.few, c.if-self-ge-MOST_ATOMS.false);
-      named = more;
-    }
-
-pub returns : goal.returns
-returns c =
-    let t = c.args.self.now in
-    let p = atom_added t c.args.text.now c.in-Some.flag c.in-Some.ensures (omega (arith, t.few, c.if-self-ge-MOST_ATOMS.false)) in
-    record { answer = p.0; after = p.1 }
+    let below = place_below bytes_eq c.args.text.now (texts t.names) c.in_ok-flag.flag (sym c.flag_number.ensures ∙ c.in_ok-flag.ensures.ok_part) in
+    let p = pushed c.try_push.result (length (texts t.names)) c.in_ok-flag.flag t.atoms c.try_push.new.self below t.few t.named c.try_push.ensures.variant.0 c.try_push.ensures.ok c.try_push.ensures.err in
+    record { some = t.some; few = p.0; named = p.1 }
