@@ -2,12 +2,7 @@
 ghost use Rattle.std.specs.Prelude.{◌≡◌, ℕ, ◌+◌, ◌-◌, ◌<◌, ◌≤◌, [], ◌∷◌, length, take, drop};
 ghost use Rattle.items.specs.Lines.{line_length, Cut, last_start, text_seen, behind};
 
-/// A line without its end, and what follows its end.
-#[derive(Clone, Copy, Drop)]
-pub struct Line<'a> {
-    pub bytes: &'a [u8],
-    pub rest: &'a [u8],
-}
+use super::reads::Read;
 
 /// How many bytes stand before the first line end.
 fn line_size(text: &[u8]) -> usize
@@ -22,25 +17,25 @@ fn line_size(text: &[u8]) -> usize
 }
 
 /// A text cut at byte `n`, which belongs to neither part.
-fn cut_at(text: &[u8], n: usize) -> Line
-    ensures bytes { result.bytes.now ≡ take n text.now }
+fn cut_at(text: &[u8], n: usize) -> Read<&[u8]>
+    ensures bytes { result.value.now ≡ take n text.now }
     ensures rest { result.rest.now ≡ drop (n + 1) text.now }
 {
     if n < text.len() {
-        Line {
-            bytes: &text[0..n],
+        Read {
+            value: &text[0..n],
             rest: &text[n + 1..],
         }
     } else {
-        Line {
-            bytes: text,
+        Read {
+            value: text,
             rest: &text[text.len()..],
         }
     }
 }
 
 /// The first line of a text.
-pub fn split_line(text: &[u8]) -> Line
+pub fn split_line(text: &[u8]) -> Read<&[u8]>
     ensures { Cut text.now result }
 {
     cut_at(text, line_size(text))

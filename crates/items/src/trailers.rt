@@ -30,14 +30,11 @@ fn read_trailer(line: &[u8]) -> Option<Trailer>
     let first = after_end(line)?;
     let rules = natural(first, 65536)?;
     let second = space(rules.rest)?;
-    let notes = natural(second, 65536)?;
-    match notes.rest {
-        [] => Some(Trailer {
-            rules: rules.value as usize,
-            notes: notes.value as usize,
-        }),
-        _ => None,
-    }
+    let notes = natural(second, 65536)?.alone()?;
+    Some(Trailer {
+        rules: rules.value as usize,
+        notes: notes as usize,
+    })
 }
 
 /// Whether rules and notes begin at starts of lines, in order and not past `own`.

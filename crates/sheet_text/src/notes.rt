@@ -8,7 +8,7 @@ ghost use Rattle.sheet_text.specs.Notes.{code_below, value_alone, values_read, n
 
 use super::heading::Heading;
 use flags::Flags;
-use items::{Number, natural, space, split_line};
+use items::{natural, space, split_line};
 use number_text::read_values;
 use numbers::Numbers;
 
@@ -106,7 +106,7 @@ fn check_notes(
     let mut rest = text;
     while !rest.is_empty() {
         let line = split_line(rest);
-        let Some(next) = next_count(line.bytes, heading, flags, numbers, room, count) else {
+        let Some(next) = next_count(line.value, heading, flags, numbers, room, count) else {
             return Err(end - rest.len());
         };
         count = next;
@@ -133,7 +133,7 @@ fn write_notes(text: &[u8], heading: Heading, flags: &Flags, numbers: &Numbers, 
     let mut i = 0;
     while !rest.is_empty() && i < visits.len() {
         let line = split_line(rest);
-        visits[i] = code(line.bytes, heading, flags, numbers);
+        visits[i] = code(line.value, heading, flags, numbers);
         i += 1;
         rest = line.rest;
     }

@@ -88,7 +88,7 @@ pub(crate) fn read_number_opening(numbers: &mut Numbers, text: &[u8]) -> Result<
     let mut rest = text;
     while !rest.is_empty() {
         let line = split_line(rest);
-        let Some(next) = declaration(stage, numbers, line.bytes) else {
+        let Some(next) = declaration(stage, numbers, line.value) else {
             return Err(text.len() - rest.len());
         };
         stage = next;

@@ -28,7 +28,7 @@ fn only_name(text: &[u8]) -> Option<&[u8]>
 {
     let name = read_name(text)?;
     match name.rest {
-        [] => Some(name.letters),
+        [] => Some(name.value),
         _ => None,
     }
 }
@@ -129,7 +129,7 @@ pub(crate) fn read_opening(flags: &mut Flags, text: &[u8]) -> Result<(), usize>
     let mut rest = text;
     while !rest.is_empty() {
         let line = split_line(rest);
-        let Some(next) = declaration(stage, flags, line.bytes) else {
+        let Some(next) = declaration(stage, flags, line.value) else {
             return Err(text.len() - rest.len());
         };
         stage = next;

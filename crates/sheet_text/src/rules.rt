@@ -14,7 +14,7 @@ fn rule_formula(draft: &mut Draft, text: &[u8]) -> Option<()>
 {
     let parsed = read_formula(draft, text)?;
     match parsed.rest {
-        [] => name(draft, parsed.formula),
+        [] => name(draft, parsed.value),
         _ => None,
     }
 }
@@ -47,7 +47,7 @@ pub(crate) fn read_rules(draft: &mut Draft, text: &[u8], end: usize) -> Result<(
     let mut rest = text;
     while !rest.is_empty() {
         let line = split_line(rest);
-        let Some(_) = rule(draft, line.bytes) else {
+        let Some(_) = rule(draft, line.value) else {
             return Err(end - rest.len());
         };
         rest = line.rest;

@@ -66,7 +66,7 @@ fn read_sections(
     requires { (trailer.rules ≤ trailer.notes) × ((trailer.notes ≤ own) × (own < length bytes.now)) }
     ensures { settled result (draft_contents draft.new) (flags_of flags.new) (numbers_of numbers.new) visits.new ≡ sections_read bytes.now own trailer.rules trailer.notes visits.old }
 {
-    match heading_of(split_line(bytes).bytes) {
+    match heading_of(split_line(bytes).value) {
         Some(Heading::Flags) => {
             read_flag_sections(bytes, own, trailer, draft, flags, numbers, visits)
         }

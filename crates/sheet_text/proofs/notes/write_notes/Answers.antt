@@ -13,7 +13,7 @@ loop-rest-smaller c = shorter c.loop-rest.rest.now c.split_line-line.result.rest
 pub loop-rest-preserved : goal.loop-rest-preserved
 loop-rest-preserved c = (
   simp length-set (omega arith),
-  one_written (note_by c.args.heading (flags_of c.args.flags.now) (numbers_of c.args.numbers.now)) c.loop-rest.rest.now c.loop-rest.visits _ c.loop-rest.i c.loop-rest.invariant.0 c.loop-rest.invariant.1 c.split_line-line.result.bytes.now c.split_line-line.result.rest.now c.code.result (filled c.loop-rest.rest.now c.loop-rest-test.ensures) c.if-i-visits.true c.split_line-line.ensures.bytes c.split_line-line.ensures.rest c.code.ensures,
+  one_written (note_by c.args.heading (flags_of c.args.flags.now) (numbers_of c.args.numbers.now)) c.loop-rest.rest.now c.loop-rest.visits _ c.loop-rest.i c.loop-rest.invariant.0 c.loop-rest.invariant.1 c.split_line-line.result.value.now c.split_line-line.result.rest.now c.code.result (filled c.loop-rest.rest.now c.loop-rest-test.ensures) c.if-i-visits.true c.split_line-line.ensures.bytes c.split_line-line.ensures.rest c.code.ensures,
 )
 
 pub returns-else-i-visits : goal.returns-else-i-visits
