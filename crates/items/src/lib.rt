@@ -8,7 +8,7 @@ mod numbers;
 mod reads;
 mod trailers;
 
-pub use lines::{last_line, space, split_line};
+pub use lines::{after, last_line, space, split_line};
 pub use names::{name_law, read_name};
 pub use numbers::{natural, natural_law, whole_number};
 pub use reads::Read;

@@ -9,24 +9,9 @@ fn lower_letters(text: &[u8]) -> usize
     ensures count { result ≡ letters_in text.now }
     ensures within { result ≤ length text.now }
 {
-    for (i, byte) in text.iter().enumerate() {
-        if *byte < b'a' || *byte > b'z' {
-            return i;
-        }
-    }
-    text.len()
-}
-
-/// A text cut before byte `n`.
-fn cut_before(text: &[u8], n: usize) -> Read<&[u8]>
-    requires { n ≤ length text.now }
-    ensures letters { result.value.now ≡ take n text.now }
-    ensures rest { result.rest.now ≡ drop n text.now }
-{
-    Read {
-        value: &text[0..n],
-        rest: &text[n..],
-    }
+    text.iter()
+        .position(|byte| !byte.is_ascii_lowercase())
+        .unwrap_or(text.len())
 }
 
 /// The name in front, of 1 to 8 small letters.
@@ -35,7 +20,8 @@ pub fn read_name(text: &[u8]) -> Option<Read<&[u8]>>
 {
     let n = lower_letters(text);
     if 1 <= n && n <= 8 {
-        Some(cut_before(text, n))
+        let (value, rest) = text.split_at(n);
+        Some(Read { value, rest })
     } else {
         None
     }
