@@ -1,19 +1,9 @@
 // Numbers in decimal, without leading zeros.
 ghost use Rattle.std.specs.Prelude.{◌≡◌, ℕ, ◌+◌, ◌-◌, ◌<◌, ◌≤◌};
-ghost use Rattle.items.specs.Numbers.{at_most, begins_with_digit, digits_read, integer_read, natural_read, NaturalLaw};
+ghost use Rattle.items.specs.Numbers.{at_most, digits_read, integer_read, natural_read, NaturalLaw};
 ghost use Rattle.items.specs.Reads.{read_seen};
 
 use super::reads::Read;
-
-/// Whether a text begins with a digit.
-fn starts_with_digit(text: &[u8]) -> bool
-    ensures { result ≡ begins_with_digit text.now }
-{
-    match text {
-        [b'0'..=b'9', ..] => true,
-        _ => false,
-    }
-}
 
 /// The number that the digits in front write, if it is at most `limit`.
 fn digits(text: &[u8], limit: u32) -> Option<Read<u32>>
@@ -41,12 +31,8 @@ pub fn natural(text: &[u8], limit: u32) -> Option<Read<u32>>
     ensures within { at_most limit result }
 {
     match text {
-        [b'0', rest @ ..] => {
-            if starts_with_digit(rest) {
-                return None;
-            }
-            Some(Read { value: 0, rest })
-        }
+        [b'0', b'0'..=b'9', ..] => None,
+        [b'0', rest @ ..] => Some(Read { value: 0, rest }),
         [b'1'..=b'9', ..] => digits(text, limit),
         _ => None,
     }
@@ -63,19 +49,16 @@ pub fn whole_number(text: &[u8], limit: u32) -> Option<Read<i64>>
 {
     match text {
         [b'-', rest @ ..] => {
-            let number = natural(rest, limit)?;
-            if number.value == 0 {
-                return None;
-            }
+            let number = natural(rest, limit).filter(|number| number.value != 0)?;
             Some(Read {
-                value: -(number.value as i64),
+                value: -i64::from(number.value),
                 rest: number.rest,
             })
         }
         _ => {
             let number = natural(text, limit)?;
             Some(Read {
-                value: number.value as i64,
+                value: i64::from(number.value),
                 rest: number.rest,
             })
         }

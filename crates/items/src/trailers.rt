@@ -44,8 +44,12 @@ fn trailer_from(sheet: &[u8], own: usize) -> Option<Trailer>
     requires { own < length sheet.now }
     ensures { trailer_seen result ≡ trailer_at sheet.now own }
 {
-    read_trailer(&sheet[own..sheet.len() - 1])
-        .filter(|found| points_back_from(sheet, own, found.rules, found.notes))
+    read_trailer(&sheet[own..sheet.len() - 1]).filter(|found| points_back_from(
+        sheet,
+        own,
+        found.rules,
+        found.notes,
+    ))
 }
 
 /// The trailer of a sheet, if it points back to starts of lines.

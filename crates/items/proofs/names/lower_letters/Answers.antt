@@ -1,4 +1,4 @@
-use Rattle.std.proofs.Common.{◌≡◌, sym, ◌∙◌, rules}
+use Rattle.std.proofs.Common.{sym, rules}
 use Rattle.items.proofs.Letters.{letters_end}
 use Rattle.items.proofs.names.lower_letters.Goals as goal
 
