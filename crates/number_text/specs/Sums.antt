@@ -3,6 +3,8 @@ use Rattle.std.specs.Prelude.{◌≡◌, ℕ, zero, suc, ◌≤◌, cond, List, 
 use Rattle.items.specs.Lines.{behind}
 use Rattle.items.specs.Names.{name_read}
 use Rattle.items.specs.Numbers.{integer_read}
+use Rattle.arrayvec.specs.ArrayVec.{ArrayVec}
+use Rattle.items.specs.declared.reads.Read.{Read}
 use Rattle.items.specs.Reads.{and_read, and_text, whole}
 use Rattle.numbers.specs.declared.term.Comparison.{Comparison}
 use Rattle.numbers.specs.declared.term.Comparison.TheVariants.{Equal, Less, AtMost}
@@ -12,7 +14,6 @@ use Rattle.numbers.specs.declared.term.Term.{Term}
 use Rattle.numbers.specs.Filling.{variable_number}
 use Rattle.numbers.specs.Kept.{as_atom}
 use Rattle.numbers.specs.Values.{VariableModel, AtomModel}
-use Rattle.number_text.specs.declared.sums.Terms.{Terms}
 use Rattle.number_text.specs.declared.sum.Sum.{Sum}
 use Rattle.number_text.specs.Chains.{and_found}
 
@@ -38,14 +39,9 @@ term_read vs text =
 abbrev pub TermsReading : Type 0
 TermsReading = Option (List Term × List ℕ)
 
-abbrev pub terms_seen : Option Terms → TermsReading
-terms_seen (Some t) = Some (take t.count t.terms, t.rest.now)
+abbrev pub terms_seen : Option (Read (ArrayVec Term)) → TermsReading
+terms_seen (Some r) = Some (r.value.items, r.rest.now)
 terms_seen None = None
-
--- the terms stand in four places
-abbrev pub four_places : Option Terms → Type 0
-four_places (Some t) = (length t.terms ≡ 4) × (t.count ≤ 4)
-four_places None = Unit {0}
 
 -- a term in front of others
 abbrev pub term_before : Term → TermsReading → TermsReading
@@ -78,7 +74,7 @@ comparison_read [] = None
 comparison_read (b ∷ bs) = cond (b == 60) (Some (less_read bs)) (cond (b == 61) (Some (Equal, bs)) None)
 
 abbrev pub sum_seen : Option Sum → Option AtomModel
-sum_seen (Some s) = Some (as_atom (take s.count s.terms) s.comparison s.constant)
+sum_seen (Some s) = Some (as_atom s.terms.items s.comparison s.constant)
 sum_seen None = None
 
 -- 1 to 4 terms, a comparison, a constant within ±40,000,000, and nothing after it

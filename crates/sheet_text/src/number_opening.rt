@@ -1,5 +1,5 @@
 // The lines before the rules of a number sheet: the heading, the variables, the atoms.
-ghost use Rattle.std.specs.Prelude.{◌≡◌, ℕ, ◌+◌, ◌-◌, ◌<◌, ◌≤◌, [], ◌∷◌, length, take};
+ghost use Rattle.std.specs.Prelude.{◌≡◌, ℕ, ◌+◌, ◌-◌, ◌<◌, ◌≤◌, [], ◌∷◌, length};
 ghost use Rattle.numbers.specs.Model.{numbers_of};
 ghost use Rattle.sheet_text.specs.Lines.{section};
 ghost use Rattle.sheet_text.specs.Opening.{opened};
@@ -39,11 +39,11 @@ fn variable(stage: Stage, numbers: &mut Numbers, name: &[u8], low: i32, high: i3
 
 /// Adds an atom that compares a sum.
 fn atom(stage: Stage, numbers: &mut Numbers, sum: Sum) -> Option<Stage>
-    ensures { opened result (numbers_of numbers.new) ≡ sum_added stage (numbers_of numbers.old) (take sum.count sum.terms) sum.comparison sum.constant }
+    ensures { opened result (numbers_of numbers.new) ≡ sum_added stage (numbers_of numbers.old) sum.terms.items sum.comparison sum.constant }
 {
     match stage {
         Stage::Variables | Stage::Atoms => {
-            match numbers.add_atom(&sum.terms[0..sum.count], sum.comparison, sum.constant) {
+            match numbers.add_atom(sum.terms.as_slice(), sum.comparison, sum.constant) {
                 Ok(_) => Some(Stage::Atoms),
                 Err(_) => None,
             }
