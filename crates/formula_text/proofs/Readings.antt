@@ -1,5 +1,6 @@
 -- How a reading goes on with what stands in front.
-use Rattle.std.proofs.Common.{◌≡◌, ℕ, zero, suc, ◌-◌, ◌<◌, Bool, not, List, [], ◌∷◌, length, get_or, take, drop, Some, None, Ok, Err, sym, refl, ap, ◌∙◌, arith}
+use Rattle.std.proofs.Common.{◌≡◌, ℕ, zero, suc, ◌-◌, ◌<◌, Bool, not, List, [], ◌∷◌, length, get_or, take, drop, Some, None, Ok, Err, Result, sym, refl, ap, ◌∙◌, arith}
+use Rattle.std.specs.Result.{result_ok}
 use Rattle.std.proofs.lemmas.List.{take_rest}
 use Rattle.refusal.specs.declared.Refusal.{Refusal}
 use Rattle.ltlf.specs.declared.node.Node.{Node}
@@ -13,13 +14,18 @@ use Rattle.formula_text.specs.Operators.{operator_of, constant_node, one_node, t
 
 -- a node that was put, and one that was not
 module _ (b after : Contents) (node : Node) (rest : List ℕ) (left : after ≡ put_leaves b node) where
-  pub was_put : (k : ℕ) → Ok k ≡ put_answer b node → found after k rest ≡ put_read node rest b
+  pub was_put : (r : Result ℕ Refusal) → r ≡ put_answer b node → (k : ℕ) → Some k ≡ result_ok r → found after k rest ≡ put_read node rest b
   unfolding put_read
-  was_put k e = ap (λ b. found b k rest) left ∙ ap (λ o. placed o rest (put_leaves b node)) e
+  was_put (Ok k) is n e = (λ i. found (left i) (number i) rest) ∙ ap (λ o. placed o rest (put_leaves b node)) is
+    where
+      number : n ≡ k
+      number = cc
+  was_put (Err r) is n e = let z : ◌≡◌ {A = ℕ} 0 1 = cc in absurd (omega arith)
 
-  pub was_refused : (r : Refusal) → Err r ≡ put_answer b node → stopped after ≡ put_read node rest b
+  pub was_refused : (r : Result ℕ Refusal) → r ≡ put_answer b node → None ≡ result_ok r → stopped after ≡ put_read node rest b
   unfolding put_read
-  was_refused r e = ap stopped left ∙ ap (λ o. placed o rest (put_leaves b node)) e
+  was_refused (Ok k) is e = let z : ◌≡◌ {A = ℕ} 0 1 = cc in absurd (omega arith)
+  was_refused (Err r) is e = ap stopped left ∙ ap (λ o. placed o rest (put_leaves b node)) is
 
 pub too_deep : (depth : ℕ) (negated : Bool) (text : List ℕ) (b : Contents) → depth ≡ 0 → stopped b ≡ formula_read depth negated text b
 unfolding formula_read

@@ -5,11 +5,11 @@ use Rattle.ltlf.specs.Contents.{Contents, put_answer, put_leaves}
 use Rattle.ltlf.specs.declared.node.Node.{Node}
 use Rattle.items.specs.Numbers.{Reading, natural_read}
 use Rattle.items.specs.Lines.{behind}
+use Rattle.items.specs.declared.reads.Read.{Read}
 use Rattle.formula_text.specs.Operators.{operator_of, constant_node, atom_node, one_node, two_node}
 use Rattle.formula_text.specs.declared.operator.Two.{Two}
 use Rattle.formula_text.specs.declared.operator.Operator.{Operator}
 use Rattle.formula_text.specs.declared.operator.Operator.TheVariants.{Constant, Not, Single, Fixed, Pair, Other}
-use Rattle.formula_text.specs.declared.reader.Parsed.{Parsed}
 
 -- What reading comes to: it stops, or it finds a formula by its number and leaves the text after it;
 -- either way the draft holds something.
@@ -18,8 +18,8 @@ pub data Outcome : Type 0 where
   found : Contents → (formula : ℕ) → (rest : List ℕ) → Outcome
 
 -- what a call gave, with what the draft holds after it
-abbrev pub outcome : Option Parsed → Contents → Outcome
-outcome (Some p) b = found b p.formula p.rest.now
+abbrev pub outcome : Option (Read ℕ) → Contents → Outcome
+outcome (Some r) b = found b r.value r.rest.now
 outcome None b = stopped b
 
 -- what follows a space

@@ -6,4 +6,4 @@ mod operator;
 mod reader;
 
 pub use operator::{One, Two};
-pub use reader::{Parsed, formula_law, read_formula, text_writes_one_formula};
+pub use reader::{formula_law, read_formula, text_writes_one_formula};

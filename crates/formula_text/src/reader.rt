@@ -6,28 +6,19 @@ ghost use Rattle.formula_text.specs.Trees.{BuiltStands};
 ghost use Rattle.formula_text.specs.Formulas.{outcome, put_read, atom_read, formula_read};
 
 use super::operator::{Operator, atom_node, constant, one_node, operator_of, two_node};
-use items::{natural, space};
+use items::{Read, natural, space};
 use ltlf::{Draft, Node};
 
-/// A formula that was read, by its number in the draft, and what follows it.
-#[derive(Clone, Copy, Drop)]
-pub struct Parsed<'a> {
-    pub formula: u8,
-    pub rest: &'a [u8],
-}
-
-/// A node, put into the draft.
-fn put_node<'a>(draft: &mut Draft, node: Node, rest: &'a [u8]) -> Option<Parsed<'a>>
+/// The number of a node that is put into the draft, with the text that follows it.
+fn put_node<'a>(draft: &mut Draft, node: Node, rest: &'a [u8]) -> Option<Read<'a, u8>>
     ensures { outcome result (draft_contents draft.new) ≡ put_read node rest.now (draft_contents draft.old) }
 {
-    match draft.put(node) {
-        Ok(formula) => Some(Parsed { formula, rest }),
-        Err(_) => None,
-    }
+    let value = draft.put(node).ok()?;
+    Some(Read { value, rest })
 }
 
 /// An atom by its number, put into the draft.
-fn atom<'a>(draft: &mut Draft, text: &'a [u8], negated: bool) -> Option<Parsed<'a>>
+fn atom<'a>(draft: &mut Draft, text: &'a [u8], negated: bool) -> Option<Read<'a, u8>>
     ensures { outcome result (draft_contents draft.new) ≡ atom_read negated text.now (draft_contents draft.old) }
 {
     let number = natural(text, 255)?;
@@ -35,7 +26,7 @@ fn atom<'a>(draft: &mut Draft, text: &'a [u8], negated: bool) -> Option<Parsed<'
 }
 
 /// A formula of at most `depth`, with negation pushed inside, its operands put left operand first.
-fn formula<'a>(draft: &mut Draft, text: &'a [u8], negated: bool, depth: u8) -> Option<Parsed<'a>>
+fn formula<'a>(draft: &mut Draft, text: &'a [u8], negated: bool, depth: u8) -> Option<Read<'a, u8>>
     ensures { outcome result (draft_contents draft.new) ≡ formula_read depth negated text.now (draft_contents draft.old) }
 {
     if depth == 0 {
@@ -53,13 +44,13 @@ fn formula<'a>(draft: &mut Draft, text: &'a [u8], negated: bool, depth: u8) -> O
         Operator::Single(op) => {
             let inner = space(after)?;
             let operand = formula(draft, inner, negated, depth - 1)?;
-            put_node(draft, one_node(op, negated, operand.formula), operand.rest)
+            put_node(draft, one_node(op, negated, operand.value), operand.rest)
         }
         Operator::Fixed(value, op) => {
             let left = put_node(draft, constant(value, negated), after)?;
             let inner = space(left.rest)?;
             let right = formula(draft, inner, negated, depth - 1)?;
-            let node = two_node(op, negated, left.formula, right.formula);
+            let node = two_node(op, negated, left.value, right.value);
             put_node(draft, node, right.rest)
         }
         Operator::Pair(op) => {
@@ -67,35 +58,31 @@ fn formula<'a>(draft: &mut Draft, text: &'a [u8], negated: bool, depth: u8) -> O
             let left = formula(draft, first_inner, negated, depth - 1)?;
             let second_inner = space(left.rest)?;
             let right = formula(draft, second_inner, negated, depth - 1)?;
-            let node = two_node(op, negated, left.formula, right.formula);
+            let node = two_node(op, negated, left.value, right.value);
             put_node(draft, node, right.rest)
         }
         Operator::Other => atom(draft, text, negated),
     }
 }
 
-/// Reads the formula in front of a text into a draft, negation pushed down to the atoms, left operands put first.
+/// Reads the formula in front of a text into a draft, and gives its number there: negation pushed down to the atoms, left operands put first.
 ///
 /// Nothing is read where no formula of depth at most 32 stands in front, where an atom does not exist and where the draft
 /// is full; what was put before reading stopped stays in the draft.
-pub fn read_formula<'a>(draft: &mut Draft, text: &'a [u8]) -> Option<Parsed<'a>>
+pub fn read_formula<'a>(draft: &mut Draft, text: &'a [u8]) -> Option<Read<'a, u8>>
     ensures { outcome result (draft_contents draft.new) ≡ formula_read 32 false text.now (draft_contents draft.old) }
 {
     formula(draft, text, false, 32)
 }
 
 /// Reading inverts writing, what is read was written, and what was read stands in the draft with its negations pushed down.
-pub fn formula_law() -> u8
+pub fn formula_law()
     ensures reads { ReadsWritten }
     ensures written { ReadIsWritten }
     ensures stands { BuiltStands }
-{
-    0
-}
+{}
 
 /// A text writes one formula only.
-pub fn text_writes_one_formula() -> u8
+pub fn text_writes_one_formula()
     ensures { WrittenOnce }
-{
-    0
-}
+{}

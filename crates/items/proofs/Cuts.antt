@@ -1,19 +1,7 @@
 -- A text, cut into its first line and the rest.
-use Rattle.std.proofs.Common.{◌≡◌, ℕ, suc, ◌+◌, ◌-◌, ◌<◌, ◌≤◌, eqb, List, [], ◌∷◌, length, take, drop, sym, refl, ap, ◌∙◌, ⊎_elim, arith}
-use Rattle.std.proofs.lemmas.List.{take_rest, take_all, drop_all}
+use Rattle.std.proofs.Common.{◌≡◌, ℕ, suc, ◌+◌, ◌<◌, eqb, List, [], ◌∷◌, length, take, drop, sym, refl, ap, ◌∙◌, ⊎_elim, arith}
 use Rattle.std.proofs.lemmas.Bool.{cond-true, cond-false, cases_Bool}
 use Rattle.items.specs.Lines.{line_length, lines_of, onto}
-
--- a slice up to n, and slices from a place on
-pub front_cut : (text : List ℕ) (n : ℕ) → take (n - 0) text ≡ take n text
-front_cut text n = let e : n - 0 ≡ n = omega arith in ap (λ k. take k text) e
-
-module _ (text : List ℕ) (n : ℕ) (past : length text ≤ n) where
-  pub front_all : text ≡ take n text
-  front_all = sym (take_all n text past)
-
-  pub rest_all : take (length text - length text) (drop (length text) text) ≡ drop (n + 1) text
-  rest_all = take_rest text (length text) ∙ drop_all (length text) text (omega arith) ∙ sym (drop_all (n + 1) text (omega arith))
 
 -- a first byte that ends no line stands before the first line of the rest
 onto_cut : (b : ℕ) (bs : List ℕ) → (0 < length bs → lines_of bs ≡ take (line_length bs) bs ∷ lines_of (drop (line_length bs + 1) bs)) → onto b (lines_of bs) ≡ (b ∷ take (line_length bs) bs) ∷ lines_of (drop (line_length bs + 1) bs)

@@ -1,16 +1,9 @@
 -- How letters are counted, and what a name is.
-use Rattle.std.proofs.Common.{◌≡◌, ℕ, suc, ◌+◌, ◌<◌, ◌≤◌, true, false, cond, ◌&&◌, leb, ◌⊎◌, List, [], ◌∷◌, ◌++◌, length, get_or, take, drop, Some, None, sym, refl, ap, ◌∙◌, ⊎_elim, arith}
+use Rattle.std.proofs.Common.{◌≡◌, ℕ, zero, suc, ◌<◌, ◌≤◌, true, false, cond, ◌&&◌, leb, List, [], ◌∷◌, ◌++◌, length, get_or, take, drop, Some, None, sym, refl, ap, ◌∙◌, ⊎_elim, arith}
 use Rattle.std.specs.Char.{is_ascii_lowercase}
-use Rattle.std.proofs.lemmas.List.{at_drop_more, at_drop_all, take_at, drop_at, take-append-drop, length-take-le}
+use Rattle.std.proofs.lemmas.List.{take_at, drop_at, take-append-drop, length-take-le}
 use Rattle.std.proofs.lemmas.Bool.{cond-true, cond-false, cases_Bool, and_parts, and_from, le-leb, leb-true}
-use Rattle.std.proofs.lemmas.Bool.Decides.{nat_tests}
 use Rattle.items.specs.Names.{letters_in, named, name_read, Naming, begins_with_letter, all_letters, Names, NameLaw}
-
-letter_true : (b : ℕ) → 97 ≤ b → b ≤ 122 → is_ascii_lowercase b ≡ true
-letter_true b low high = grind (arith, nat_tests)
-
-letter_false : (b : ℕ) → (b < 97) ⊎ (122 < b) → is_ascii_lowercase b ≡ false
-letter_false b out = grind (arith, nat_tests)
 
 pub letters_within : (text : List ℕ) → letters_in text ≤ length text
 letters_within [] = omega arith
@@ -18,19 +11,12 @@ letters_within (b ∷ bs) =
     let more = letters_within bs in
     elim (is_ascii_lowercase b) as (λ t. cond t (suc (letters_in bs)) 0 ≤ suc (length bs)) [ true ↦ omega arith | false ↦ omega arith ]
 
-module _ (text : List ℕ) (i : ℕ) (so : i + letters_in (drop i text) ≡ letters_in text) where
-  pub letters_end : i < length text → (get_or text i 0 < 97) ⊎ (122 < get_or text i 0) → i ≡ letters_in text
-  letters_end within out =
-      let here : letters_in (drop i text) ≡ 0 = at_drop_more letters_in text i 0 within ∙ cond-false _ _ _ (letter_false _ out) in
-      omega arith
-
-  pub letters_on : i < length text → 97 ≤ get_or text i 0 → get_or text i 0 ≤ 122 → i + 1 + letters_in (drop (i + 1) text) ≡ letters_in text
-  letters_on within low high =
-      let here : letters_in (drop i text) ≡ suc (letters_in (drop (i + 1) text)) = at_drop_more letters_in text i 0 within ∙ cond-true _ _ _ (letter_true _ low high) in
-      omega arith
-
-  pub letters_all : length text ≤ i → i ≤ length text → length text ≡ letters_in text
-  letters_all past within = let here : letters_in (drop i text) ≡ 0 = at_drop_all letters_in text i past in omega arith
+-- where the letters end, by its place
+pub letters_end : (text : List ℕ) (i : ℕ) → i ≤ length text → ((k : ℕ) → k < i → is_ascii_lowercase (get_or text k 0) ≡ true) → (i < length text → is_ascii_lowercase (get_or text i 0) ≡ false) → letters_in text ≡ i
+letters_end [] i within before stops = omega arith
+letters_end (b ∷ bs) zero within before stops = cond-false _ _ _ (stops (omega arith))
+letters_end (b ∷ bs) (suc i) within before stops =
+    cond-true _ _ _ (before 0 (omega arith)) ∙ ap suc (letters_end bs i (omega arith) (λ k below. before (suc k) (omega arith)) (λ inside. stops (omega arith)))
 
 -- the letters in front are letters, and no letter follows them
 front_letters : (bs : List ℕ) → all_letters (take (letters_in bs) bs) ≡ true

@@ -1,33 +1,51 @@
--- Steps of the scans for line ends.
-use Rattle.std.proofs.Common.{◌≡◌, ℕ, suc, ◌+◌, ◌-◌, ◌<◌, ◌≤◌, cond, eqb, List, length, get_or, take, drop, sym, ap, ◌∙◌, arith}
-use Rattle.std.proofs.lemmas.List.{at_drop_more, at_drop_all, length-take-le, get_or-take}
-use Rattle.std.proofs.lemmas.Bool.{cond-true, cond-false, eq-eqb, ne_eqb}
-use Rattle.items.specs.Lines.{line_length, start_from}
+-- Where lines end, and what follows a word.
+use Rattle.std.proofs.Common.{◌≡◌, ◌≢◌, ℕ, zero, suc, ◌+◌, ◌<◌, cond, eqb, List, [], ◌∷◌, ◌++◌, length, get_or, Some, None, Option, sym, refl, ap, ◌∙◌, ⊎_elim, arith}
+use Rattle.std.specs.Borrow.{Bor}
+use Rattle.std.specs.Option.{MatchOption}
+use Rattle.std.proofs.lemmas.Bool.{cond-true, cond-false, cases_Bool, eq-eqb, ne_eqb, eqb-true}
+use Rattle.items.specs.Lines.{text_seen, behind, line_length, start_from}
 
-module _ (text : List ℕ) (i : ℕ) (so : i + line_length (drop i text) ≡ line_length text) where
-  pub line_here : i < length text → get_or text i 0 ≡ 10 → i ≡ line_length text
-  line_here within is =
-      let here : line_length (drop i text) ≡ 0 = at_drop_more line_length text i 0 within ∙ cond-true _ _ _ (eq-eqb _ 10 is) in
-      omega arith
+-- the first line end, by its place
+pub first_end : (text : List ℕ) (i : ℕ) → i < length text → get_or text i 0 ≡ 10 → ((k : ℕ) → k < i → get_or text k 0 ≢ 10) → line_length text ≡ i
+first_end [] i inside here before = absurd (omega arith)
+first_end (b ∷ bs) zero inside here before = cond-true _ _ _ (eq-eqb b 10 here)
+first_end (b ∷ bs) (suc i) inside here before =
+    cond-false _ _ _ (ne_eqb b 10 (before 0 (omega arith))) ∙ ap suc (first_end bs i (omega arith) here (λ k below. before (suc k) (omega arith)))
 
-  pub line_on : i < length text → (get_or text i 0 ≡ 10 → ⊥) → i + 1 + line_length (drop (i + 1) text) ≡ line_length text
-  line_on within ne =
-      let here : line_length (drop i text) ≡ suc (line_length (drop (i + 1) text)) = at_drop_more line_length text i 0 within ∙ cond-false _ _ _ (ne_eqb _ 10 ne) in
-      omega arith
+pub no_end : (text : List ℕ) → ((k : ℕ) → k < length text → get_or text k 0 ≢ 10) → line_length text ≡ length text
+no_end [] none = refl
+no_end (b ∷ bs) none = cond-false _ _ _ (ne_eqb b 10 (none 0 (omega arith))) ∙ ap suc (no_end bs (λ k below. none (suc k) (omega arith)))
 
-  pub line_all : length text ≤ i → i ≤ length text → length text ≡ line_length text
-  line_all past within = let here : line_length (drop i text) ≡ 0 = at_drop_all line_length text i past in omega arith
+-- the last line end, by its place
+pub start_kept : (i s : ℕ) (text : List ℕ) → ((k : ℕ) → k < length text → get_or text k 0 ≢ 10) → start_from i s text ≡ s
+start_kept i s [] none = refl
+start_kept i s (b ∷ bs) none =
+    ap (λ s. start_from (i + 1) s bs) (cond-false _ _ _ (ne_eqb b 10 (none 0 (omega arith)))) ∙ start_kept (i + 1) s bs (λ k below. none (suc k) (omega arith))
 
--- the scan for the last line, at place i of the text without its last byte
-module _ (text : List ℕ) (i start : ℕ) (r : ℕ) (so : start_from i start (drop i (take (length text - 1) text)) ≡ r) where
-  size : length (take (length text - 1) text) ≡ length text - 1
-  size = length-take-le (length text - 1) text (omega arith)
+pub start_after : (i s : ℕ) (text : List ℕ) (end : ℕ) → end < length text → get_or text end 0 ≡ 10 → ((k : ℕ) → end < k → k < length text → get_or text k 0 ≢ 10) → start_from i s text ≡ i + end + 1
+start_after i s [] end inside here after = absurd (omega arith)
+start_after i s (b ∷ bs) zero inside here after =
+    let kept = start_kept (i + 1) (cond (eqb b 10) (i + 1) s) bs (λ k below. after (suc k) (omega arith) (omega arith)) in
+    let next = cond-true (eqb b 10) (i + 1) s (eq-eqb b 10 here) in
+    omega (arith, kept, next)
+start_after i s (b ∷ bs) (suc end) inside here after =
+    let later = start_after (i + 1) (cond (eqb b 10) (i + 1) s) bs end (omega arith) here (λ k past below. after (suc k) (omega arith) (omega arith)) in
+    omega (arith, later)
 
-  pub start_on : (next : ℕ) → i < length text - 1 → next ≡ cond (eqb (get_or text i 0) 10) (i + 1) start → start_from (i + 1) next (drop (i + 1) (take (length text - 1) text)) ≡ r
-  start_on next within is =
-      let here : get_or (take (length text - 1) text) i 0 ≡ get_or text i 0 = get_or-take (length text - 1) text i 0 within in
-      ap (λ s. start_from (i + 1) s (drop (i + 1) (take (length text - 1) text))) (is ∙ ap (λ b. cond (eqb b 10) (i + 1) start) (sym here)) ∙
-      sym (at_drop_more (start_from i start) (take (length text - 1) text) i 0 (omega (arith, size))) ∙ so
+-- what follows a word, where the text begins with it
+begun : (word rest : List ℕ) → behind word (word ++ rest) ≡ Some rest
+begun [] rest = refl
+begun (w ∷ ws) rest = cond-true _ _ _ (eq-eqb w w refl) ∙ begun ws rest
 
-  pub start_all : length text - 1 ≤ i → start ≡ r
-  start_all past = sym (at_drop_all (start_from i start) (take (length text - 1) text) i (omega (arith, size))) ∙ so
+not_begun : (word text : List ℕ) → ((rest : List ℕ) → text ≢ word ++ rest) → None ≡ behind word text
+not_begun [] text other = absurd (other text refl)
+not_begun (w ∷ ws) [] other = refl
+not_begun (w ∷ ws) (b ∷ bs) other =
+    ⊎_elim
+    (λ is. not_begun ws bs (λ rest e. other rest (λ i. eqb-true b w is i ∷ e i)) ∙ sym (cond-true _ _ _ is))
+    (λ is. sym (cond-false _ _ _ is))
+    (cases_Bool (eqb b w))
+
+pub stripped : (word text : List ℕ) (r : Option (Bor (List ℕ))) → MatchOption r ((rest : List ℕ) → text ≢ word ++ rest) (λ x. text ≡ word ++ x.now) → text_seen r ≡ behind word text
+stripped word text None other = not_begun word text other
+stripped word text (Some rest) is = sym (ap (behind word) is ∙ begun word rest.now)

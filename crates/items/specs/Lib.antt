@@ -1,3 +1,4 @@
+pub mod Reads
 pub mod Numbers
 pub mod Names
 pub mod Lines

@@ -1,7 +1,7 @@
 -- The lines of a text, and what follows a word.
 use Rattle.std.specs.Prelude.{◌≡◌, ℕ, suc, ◌+◌, ◌-◌, cond, List, [], ◌∷◌, length, take, drop, Some, None, Option, ◌==◌}
 use Rattle.std.specs.Borrow.{Bor}
-use Rattle.items.specs.declared.lines.Line.{Line}
+use Rattle.items.specs.declared.reads.Read.{Read}
 
 -- the text that a reader left, if it read anything
 abbrev pub text_seen : Option (Bor (List ℕ)) → Option (List ℕ)
@@ -20,8 +20,8 @@ line_length [] = 0
 line_length (b ∷ bs) = cond (b == 10) 0 (suc (line_length bs))
 
 -- a text is cut into its first line, without the line end, and what follows that end
-pub record Cut (text : List ℕ) (l : Line) : Type 0 where
-  pub bytes : l.bytes.now ≡ take (line_length text) text
+pub record Cut (text : List ℕ) (l : Read (Bor (List ℕ))) : Type 0 where
+  pub bytes : l.value.now ≡ take (line_length text) text
   pub rest : l.rest.now ≡ drop (line_length text + 1) text
 
 -- a byte that ends no line, put before the first line

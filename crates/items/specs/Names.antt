@@ -1,7 +1,8 @@
 -- How a name is read from the front of a text.
 use Rattle.std.specs.Prelude.{◌≡◌, ℕ, suc, ◌≤◌, Bool, true, false, cond, ◌&&◌, List, [], ◌∷◌, ◌++◌, length, take, drop, Some, None, Option, nat_le}
 use Rattle.std.specs.Char.{is_ascii_lowercase}
-use Rattle.items.specs.declared.names.Name.{Name}
+use Rattle.std.specs.Borrow.{Bor}
+use Rattle.items.specs.declared.reads.Read.{Read}
 
 -- how many small letters stand in front
 abbrev pub letters_in : List ℕ → ℕ
@@ -11,8 +12,8 @@ letters_in (b ∷ bs) = cond (is_ascii_lowercase b) (suc (letters_in bs)) 0
 abbrev pub Naming : Type 0
 Naming = Option (List ℕ × List ℕ)
 
-abbrev pub name_seen : Option Name → Naming
-name_seen (Some n) = Some (n.letters.now, n.rest.now)
+abbrev pub name_seen : Option (Read (Bor (List ℕ))) → Naming
+name_seen (Some n) = Some (n.value.now, n.rest.now)
 name_seen None = None
 
 -- n letters in front, if they make a name

@@ -1,18 +1,13 @@
 -- How a whole number is read from the front of a text.
 use Rattle.std.specs.Prelude.{◌≡◌, ℕ, zero, suc, ◌+◌, ◌-◌, ◌*◌, ◌^◌, ◌<◌, ◌≤◌, Bool, false, cond, List, [], ◌∷◌, ◌++◌, ℤ, pos, negsuc, Some, None, decimal, Option, ◌==◌, nat_le}
 use Rattle.std.specs.Char.{is_ascii_digit}
-use Rattle.items.specs.declared.numbers.Integer.{Integer}
-use Rattle.items.specs.declared.numbers.Number.{Number}
+use Rattle.items.specs.declared.reads.Read.{Read}
 
 -- a number, and the text after it
 abbrev pub Reading : Type 0
 Reading = Option (ℕ × List ℕ)
 
-abbrev pub number_seen : Option Number → Reading
-number_seen (Some n) = Some (n.value, n.rest.now)
-number_seen None = None
-
-abbrev pub at_most : ℕ → Option Number → Type 0
+abbrev pub at_most : ℕ → Option (Read ℕ) → Type 0
 at_most limit (Some n) = n.value ≤ limit
 at_most limit None = Unit {0}
 
@@ -51,10 +46,6 @@ NaturalLaw = (limit : ℕ) → limit < 2 ^ 64 → (bs : List ℕ) (n : ℕ) (res
 -- a number with its sign, and the text after it
 abbrev pub SignedReading : Type 0
 SignedReading = Option (ℤ × List ℕ)
-
-abbrev pub integer_seen : Option Integer → SignedReading
-integer_seen (Some n) = Some (n.value, n.rest.now)
-integer_seen None = None
 
 abbrev pub as_signed : Reading → SignedReading
 as_signed None = None

@@ -1,6 +1,7 @@
 -- The trailer of a sheet.
 use Rattle.std.specs.Prelude.{ℕ, ◌-◌, Bool, cond, ◌&&◌, List, [], ◌∷◌, length, take, drop, Some, None, Option, ◌==◌, nat_le, slice_index}
-use Rattle.items.specs.Numbers.{Reading, natural_read}
+pub use Rattle.items.specs.Reads.{and_read, and_text, whole}
+use Rattle.items.specs.Numbers.{natural_read}
 use Rattle.items.specs.Lines.{behind, last_start}
 use Rattle.items.specs.declared.trailers.Trailer.{Trailer}
 
@@ -8,21 +9,6 @@ use Rattle.items.specs.declared.trailers.Trailer.{Trailer}
 abbrev pub trailer_seen : Option Trailer → Option (ℕ × ℕ)
 trailer_seen (Some t) = Some (t.rules, t.notes)
 trailer_seen None = None
-
--- a number, and how to go on with it and what follows it
-abbrev pub and_read : {X : Type 0} → Reading → (ℕ → List ℕ → Option X) → Option X
-and_read None f = None
-and_read (Some r) f = f r.0 r.1
-
--- a text, and how to go on with it
-abbrev pub and_text : {X : Type 0} → Option (List ℕ) → (List ℕ → Option X) → Option X
-and_text None f = None
-and_text (Some bs) f = f bs
-
--- a value, where nothing is left of the text
-abbrev pub whole : {X : Type 0} → X → List ℕ → Option X
-whole x [] = Some x
-whole x (b ∷ bs) = None
 
 -- the line `end R N`, with the places R and N
 abbrev pub trailer_read : List ℕ → Option (ℕ × ℕ)

@@ -5,9 +5,11 @@
 mod lines;
 mod names;
 mod numbers;
+mod reads;
 mod trailers;
 
-pub use lines::{Line, last_line, space, split_line};
-pub use names::{Name, name_law, read_name};
-pub use numbers::{Integer, Number, natural, natural_law, whole_number};
+pub use lines::{after, last_line, space, split_line};
+pub use names::{name_law, read_name};
+pub use numbers::{natural, natural_law, whole_number};
+pub use reads::Read;
 pub use trailers::{Trailer, trailer_of};

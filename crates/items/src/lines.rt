@@ -1,64 +1,23 @@
-// Lines, each up to a line end, and the space between items.
-ghost use Rattle.std.specs.Prelude.{◌≡◌, ℕ, ◌+◌, ◌-◌, ◌<◌, ◌≤◌, [], ◌∷◌, length, take, drop};
-ghost use Rattle.items.specs.Lines.{line_length, Cut, last_start, text_seen, behind};
+// Lines, each up to a line end, and what follows a word.
+ghost use Rattle.std.specs.Prelude.{◌≡◌, ℕ, ◌+◌, ◌-◌, ◌<◌, ◌≤◌, [], ◌∷◌, length};
+ghost use Rattle.items.specs.Lines.{Cut, last_start, text_seen, behind};
 
-/// A line without its end, and what follows its end.
-#[derive(Clone, Copy, Drop)]
-pub struct Line<'a> {
-    pub bytes: &'a [u8],
-    pub rest: &'a [u8],
-}
+use super::reads::Read;
 
-/// How many bytes stand before the first line end.
-fn line_size(text: &[u8]) -> usize
-    ensures { result ≡ line_length text.now }
-{
-    for (i, byte) in text.iter().enumerate() {
-        if *byte == b'\n' {
-            return i;
-        }
-    }
-    text.len()
-}
-
-/// A text cut at byte `n`, which belongs to neither part.
-fn cut_at(text: &[u8], n: usize) -> Line
-    ensures bytes { result.bytes.now ≡ take n text.now }
-    ensures rest { result.rest.now ≡ drop (n + 1) text.now }
-{
-    if n < text.len() {
-        Line {
-            bytes: &text[0..n],
-            rest: &text[n + 1..],
-        }
-    } else {
-        Line {
-            bytes: text,
-            rest: &text[text.len()..],
-        }
-    }
-}
-
-/// The first line of a text.
-pub fn split_line(text: &[u8]) -> Line
+/// The first line of a text without its end, and what follows its end.
+pub fn split_line(text: &[u8]) -> Read<&[u8]>
     ensures { Cut text.now result }
 {
-    cut_at(text, line_size(text))
-}
-
-/// The place of the last line of a text that is not empty.
-fn last_start_in(text: &[u8]) -> usize
-    requires { 0 < length text.now }
-    ensures place { result ≡ last_start text.now }
-    ensures within { result < length text.now }
-{
-    let mut start = 0;
-    for i in 0..text.len() - 1 {
-        if text[i] == b'\n' {
-            start = i + 1;
-        }
+    match text.iter().position(|byte| *byte == b'\n') {
+        Some(end) => Read {
+            value: &text[..end],
+            rest: &text[end + 1..],
+        },
+        None => Read {
+            value: text,
+            rest: &[],
+        },
     }
-    start
 }
 
 /// The place of the last line of a text, whose last byte ends that line.
@@ -68,16 +27,23 @@ pub fn last_line(text: &[u8]) -> usize
 {
     match text {
         [] => 0,
-        _ => last_start_in(text),
+        [front @ .., _] => match front.iter().rposition(|byte| *byte == b'\n') {
+            Some(end) => end + 1,
+            None => 0,
+        },
     }
+}
+
+/// What follows a word.
+pub fn after<'a>(text: &'a [u8], word: &[u8]) -> Option<&'a [u8]>
+    ensures { text_seen result ≡ behind word.now text.now }
+{
+    text.strip_prefix(word)
 }
 
 /// What follows a space.
 pub fn space(text: &[u8]) -> Option<&[u8]>
     ensures { text_seen result ≡ behind (32 ∷ []) text.now }
 {
-    match text {
-        [b' ', rest @ ..] => Some(rest),
-        _ => None,
-    }
+    after(text, b" ")
 }

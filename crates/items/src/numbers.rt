@@ -1,34 +1,13 @@
 // Numbers in decimal, without leading zeros.
 ghost use Rattle.std.specs.Prelude.{◌≡◌, ℕ, ◌+◌, ◌-◌, ◌<◌, ◌≤◌};
-ghost use Rattle.items.specs.Numbers.{at_most, begins_with_digit, digits_read, integer_read, natural_read, number_seen, integer_seen, NaturalLaw};
+ghost use Rattle.items.specs.Numbers.{at_most, digits_read, integer_read, natural_read, NaturalLaw};
+ghost use Rattle.items.specs.Reads.{read_seen};
 
-/// A number that was read, and what follows it.
-#[derive(Clone, Copy, Drop)]
-pub struct Number<'a> {
-    pub value: u32,
-    pub rest: &'a [u8],
-}
-
-/// A number with its sign that was read, and what follows it.
-#[derive(Clone, Copy, Drop)]
-pub struct Integer<'a> {
-    pub value: i64,
-    pub rest: &'a [u8],
-}
-
-/// Whether a text begins with a digit.
-fn starts_with_digit(text: &[u8]) -> bool
-    ensures { result ≡ begins_with_digit text.now }
-{
-    match text {
-        [b'0'..=b'9', ..] => true,
-        _ => false,
-    }
-}
+use super::reads::Read;
 
 /// The number that the digits in front write, if it is at most `limit`.
-fn digits(text: &[u8], limit: u32) -> Option<Number>
-    ensures read { number_seen result ≡ digits_read limit text.now }
+fn digits(text: &[u8], limit: u32) -> Option<Read<u32>>
+    ensures read { read_seen result ≡ digits_read limit text.now }
     ensures within { at_most limit result }
 {
     let mut value = 0u64;
@@ -40,55 +19,46 @@ fn digits(text: &[u8], limit: u32) -> Option<Number>
         }
         rest = after;
     }
-    Some(Number {
+    Some(Read {
         value: value as u32,
         rest,
     })
 }
 
 /// The number in front, if it is written without leading zeros and is at most `limit`.
-pub fn natural(text: &[u8], limit: u32) -> Option<Number>
-    ensures read { number_seen result ≡ natural_read limit text.now }
+pub fn natural(text: &[u8], limit: u32) -> Option<Read<u32>>
+    ensures read { read_seen result ≡ natural_read limit text.now }
     ensures within { at_most limit result }
 {
     match text {
-        [b'0', rest @ ..] => {
-            if starts_with_digit(rest) {
-                return None;
-            }
-            Some(Number { value: 0, rest })
-        }
+        [b'0', b'0'..=b'9', ..] => None,
+        [b'0', rest @ ..] => Some(Read { value: 0, rest }),
         [b'1'..=b'9', ..] => digits(text, limit),
         _ => None,
     }
 }
 
 /// A number is read exactly where one is written.
-pub fn natural_law() -> u8
+pub fn natural_law()
     ensures { NaturalLaw }
-{
-    0
-}
+{}
 
 /// The number in front with a minus if it is below zero, if it is at most `limit` away from zero.
-pub fn whole_number(text: &[u8], limit: u32) -> Option<Integer>
-    ensures { integer_seen result ≡ integer_read limit text.now }
+pub fn whole_number(text: &[u8], limit: u32) -> Option<Read<i64>>
+    ensures { read_seen result ≡ integer_read limit text.now }
 {
     match text {
         [b'-', rest @ ..] => {
-            let number = natural(rest, limit)?;
-            if number.value == 0 {
-                return None;
-            }
-            Some(Integer {
-                value: -(number.value as i64),
+            let number = natural(rest, limit).filter(|number| number.value != 0)?;
+            Some(Read {
+                value: -i64::from(number.value),
                 rest: number.rest,
             })
         }
         _ => {
             let number = natural(text, limit)?;
-            Some(Integer {
-                value: number.value as i64,
+            Some(Read {
+                value: i64::from(number.value),
                 rest: number.rest,
             })
         }

@@ -3,7 +3,7 @@ ghost use Rattle.std.specs.Prelude.{◌≡◌, ℕ, ◌+◌, ◌-◌, ◌<◌, �
 ghost use Rattle.items.specs.Lines.{text_seen, behind};
 ghost use Rattle.items.specs.Trailers.{trailer_seen, trailer_read, trailer_at, trailer_in, points_back};
 
-use super::lines::{last_line, space};
+use super::lines::{after, last_line, space};
 use super::numbers::natural;
 
 /// Where the rules and the notes begin.
@@ -13,31 +13,18 @@ pub struct Trailer {
     pub notes: usize,
 }
 
-/// What follows the word of the trailer.
-fn after_end(line: &[u8]) -> Option<&[u8]>
-    ensures { text_seen result ≡ behind (101 ∷ 110 ∷ 100 ∷ 32 ∷ []) line.now }
-{
-    match line {
-        [b'e', b'n', b'd', b' ', rest @ ..] => Some(rest),
-        _ => None,
-    }
-}
-
 /// The trailer that a line writes.
 fn read_trailer(line: &[u8]) -> Option<Trailer>
     ensures { trailer_seen result ≡ trailer_read line.now }
 {
-    let first = after_end(line)?;
+    let first = after(line, b"end ")?;
     let rules = natural(first, 65536)?;
     let second = space(rules.rest)?;
-    let notes = natural(second, 65536)?;
-    match notes.rest {
-        [] => Some(Trailer {
-            rules: rules.value as usize,
-            notes: notes.value as usize,
-        }),
-        _ => None,
-    }
+    let notes = natural(second, 65536)?.alone()?;
+    Some(Trailer {
+        rules: rules.value as usize,
+        notes: notes as usize,
+    })
 }
 
 /// Whether rules and notes begin at starts of lines, in order and not past `own`.
@@ -57,12 +44,12 @@ fn trailer_from(sheet: &[u8], own: usize) -> Option<Trailer>
     requires { own < length sheet.now }
     ensures { trailer_seen result ≡ trailer_at sheet.now own }
 {
-    let found = read_trailer(&sheet[own..sheet.len() - 1])?;
-    if points_back_from(sheet, own, found.rules, found.notes) {
-        Some(found)
-    } else {
-        None
-    }
+    read_trailer(&sheet[own..sheet.len() - 1]).filter(|found| points_back_from(
+        sheet,
+        own,
+        found.rules,
+        found.notes,
+    ))
 }
 
 /// The trailer of a sheet, if it points back to starts of lines.

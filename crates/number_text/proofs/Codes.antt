@@ -4,7 +4,7 @@ use Rattle.std.proofs.lemmas.Nat.{mul-le}
 use Rattle.std.proofs.lemmas.Int.{to_z-of_z}
 use Rattle.std.proofs.lemmas.List.{drop_all}
 use Rattle.items.specs.Numbers.{Reading}
-use Rattle.items.specs.Trailers.{and_read, whole}
+use Rattle.items.specs.Reads.{and_read, whole}
 use Rattle.numbers.specs.Filling.{bounds_at}
 use Rattle.numbers.specs.Limits.{value_count}
 use Rattle.numbers.specs.Values.{VariableModel, combinations}

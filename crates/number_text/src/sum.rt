@@ -1,14 +1,10 @@
-ghost use Rattle.std.specs.Prelude.{◌≡◌, ◌≤◌, length};
-
+use arrayvec::ArrayVec;
 use numbers::{Comparison, Term};
 
-/// A sum of its first `count` terms, compared with a constant.
-#[derive(Clone, Copy, Drop)]
+/// A sum of terms, compared with a constant.
+#[derive(Drop)]
 pub struct Sum {
-    pub terms: [Term; 4],
-    pub count: usize,
+    pub terms: ArrayVec<Term, 4>,
     pub comparison: Comparison,
     pub constant: i32,
-    ghost whole: { length terms ≡ 4 },
-    ghost few: { count ≤ 4 },
 }

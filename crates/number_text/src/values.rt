@@ -1,12 +1,12 @@
 // The values of a note.
 ghost use Rattle.std.specs.Prelude.{◌≡◌, ℕ, ◌+◌, ◌*◌, ◌≤◌};
-ghost use Rattle.items.specs.Numbers.{number_seen};
+ghost use Rattle.items.specs.Reads.{read_seen};
 ghost use Rattle.numbers.specs.Limits.{value_count};
 ghost use Rattle.numbers.specs.Model.{numbers_of};
 ghost use Rattle.number_text.specs.Values.{counted_on, counts_below, reads_below, value_read, values_read};
 
 use super::integers::read_small;
-use items::{Number, space};
+use items::{Read, space};
 use numbers::Numbers;
 
 /// The code with one more value, which lies from `low` to `high`.
@@ -23,15 +23,15 @@ fn count_on(low: i32, high: i32, before: u32, value: i32) -> Option<u32>
 }
 
 /// The code with one more value, which stands behind a space.
-fn read_value(low: i32, high: i32, before: u32, text: &[u8]) -> Option<Number>
+fn read_value(low: i32, high: i32, before: u32, text: &[u8]) -> Option<Read<u32>>
     requires { (before + 1) * value_count low high ≤ 65535 }
-    ensures read { number_seen result ≡ value_read low high before text.now }
+    ensures read { read_seen result ≡ value_read low high before text.now }
     ensures below { reads_below low high before result }
 {
     let written = space(text)?;
     let value = read_small(written, 10_000)?;
     let code = count_on(low, high, before, value.value)?;
-    Some(Number {
+    Some(Read {
         value: code,
         rest: value.rest,
     })

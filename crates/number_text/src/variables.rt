@@ -19,15 +19,12 @@ fn bounded<'a>(name: &'a [u8], text: &'a [u8]) -> Option<Declared<'a>>
 {
     let low = read_small(text, 10_000)?;
     let second = space(low.rest)?;
-    let high = read_small(second, 10_000)?;
-    match high.rest {
-        [] => Some(Declared {
-            name,
-            low: low.value,
-            high: high.value,
-        }),
-        _ => None,
-    }
+    let high = read_small(second, 10_000)?.alone()?;
+    Some(Declared {
+        name,
+        low: low.value,
+        high,
+    })
 }
 
 /// The variable whose name and bounds are all of a text: `NAME LOW HIGH`.
@@ -38,5 +35,5 @@ pub fn read_variable(text: &[u8]) -> Option<Declared>
 {
     let name = read_name(text)?;
     let bounds = space(name.rest)?;
-    bounded(name.letters, bounds)
+    bounded(name.value, bounds)
 }

@@ -1,6 +1,7 @@
 /// When a term reads its variable: at the visit, at its strong next or at its weak next.
-#[derive(Clone, Copy, PartialEq, Eq, Debug, Drop)]
+#[derive(Clone, Copy, PartialEq, Eq, Debug, Default, Drop)]
 pub enum Moment {
+    #[default]
     Now,
     Next,
     WeakNext,
@@ -15,7 +16,7 @@ pub enum Comparison {
 }
 
 /// A coefficient times a variable, named by its number, at a moment.
-#[derive(Clone, Copy, PartialEq, Eq, Debug, Drop)]
+#[derive(Clone, Copy, PartialEq, Eq, Debug, Default, Drop)]
 pub struct Term {
     pub coefficient: i32,
     pub variable: u8,

@@ -15,11 +15,7 @@ use items::{natural, read_name, space};
 fn only_name(text: &[u8]) -> Option<&[u8]>
     ensures { text_seen result ≡ only (name_read text.now) }
 {
-    let name = read_name(text)?;
-    match name.rest {
-        [] => Some(name.letters),
-        _ => None,
-    }
+    read_name(text)?.alone()
 }
 
 /// The code that a single value writes.
@@ -27,11 +23,8 @@ fn value(text: &[u8]) -> Option<u16>
     ensures read { result ≡ value_alone text.now }
     ensures below { code_below 1 result }
 {
-    let bit = natural(text, 1)?;
-    match bit.rest {
-        [] => Some(bit.value as u16),
-        _ => None,
-    }
+    let bit = natural(text, 1)?.alone()?;
+    Some(bit as u16)
 }
 
 /// The code that the values of `flags` flags write, the first the lowest bit.

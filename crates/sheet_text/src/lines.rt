@@ -38,7 +38,7 @@ impl<'a> Iterator for Lines<'a> {
         if place >= self.text.len() {
             return None;
         }
-        let line = split_line(&self.text[place..]).bytes;
+        let line = split_line(&self.text[place..]).value;
         self.next = place + line.len() + 1;
         Some((place, line))
     }

@@ -12,11 +12,8 @@ use ltlf::Draft;
 fn rule_formula(draft: &mut Draft, text: &[u8]) -> Option<()>
     ensures { left_by result (draft_contents draft.new) ≡ rule_text (draft_contents draft.old) text.now }
 {
-    let parsed = read_formula(draft, text)?;
-    match parsed.rest {
-        [] => draft.name_rule(parsed.formula).ok(),
-        _ => None,
-    }
+    let formula = read_formula(draft, text)?.alone()?;
+    draft.name_rule(formula).ok()
 }
 
 /// Reads the line of a rule.

@@ -58,7 +58,7 @@ fn read_text(
     }
     let own = last_line(bytes);
     let trailer = trailer_of(bytes).ok_or(SheetRefusal::Trailer(own))?;
-    let heading = heading_of(split_line(bytes).bytes).ok_or(SheetRefusal::Opening(0))?;
+    let heading = heading_of(split_line(bytes).value).ok_or(SheetRefusal::Opening(0))?;
     *flags = Flags::fresh();
     *numbers = Numbers::fresh();
     match heading {
