@@ -6,9 +6,10 @@ use Rattle.std.specs.Str.{bytes_eq}
 use Rattle.intern.proofs.Growth.{indexed_one}
 use Rattle.intern.proofs.Indexes.{false_from}
 use Rattle.intern.proofs.Places.{length_items, place_map}
-use Rattle.intern.proofs.Slots.{slot_found, slot_added, slot_full}
+use Rattle.intern.proofs.Slots.{slot_found, slot_added, slot_refused}
 use Rattle.intern.specs.declared.cell.Cell.{Cell}
-use Rattle.intern.specs.declared.Slot.TheVariants.{Found, Added, Full}
+use Rattle.intern.specs.declared.EntryError.{EntryError}
+use Rattle.intern.specs.declared.Slot.TheVariants.{Found, Added}
 use Rattle.intern.specs.Entry.{room}
 use Rattle.intern.specs.Index.{Indexed, items, place, further}
 use Rattle.intern.specs.Links.{leaf}
@@ -82,21 +83,21 @@ module _ (cells : List (Cell Name)) (n : ℕ) (atoms : List ℕ) where
       ap (λ (ns : List (List ℕ)). record { names = ns; atoms = atoms }) same ∙ sym (cond-false _ _ _ e),
     )
 
-    pub taken : (k : ℕ) → Settled same_text name_turn cells n name (Found k) after
+    pub taken : (k : ℕ) → Settled same_text name_turn cells n name (Ok (Found k)) after
         → (◌≡◌ {A = Result (Unit {0}) FillRefusal} (Err Variable) (flag_answer model text)) × (◌≡◌ {A = FlagsModel} (record { names = map text_of (items after n); atoms = atoms }) (flag_leaves model text))
     taken k s =
         let there : flag_number text model.names ≡ Some k = sym (number_of name text is) ∙ slot_found _ k n _ s.slot_is in
         refused (and_right (is_name text) _ (and_left (not (is_some (flag_number text model.names))) _ (ap (λ (o : Option ℕ). not (is_some o)) there)))
         (ap (map text_of) s.items_are)
 
-    pub crowded : Settled same_text name_turn cells n name Full after
+    pub crowded : (why : EntryError) → Settled same_text name_turn cells n name (Err why) after
         → (◌≡◌ {A = Result (Unit {0}) FillRefusal} (Err Variable) (flag_answer model text)) × (◌≡◌ {A = FlagsModel} (record { names = map text_of (items after n); atoms = atoms }) (flag_leaves model text))
-    crowded s =
-        let no_room : room n 12 ≡ false = ap (room n) (sym whole) ∙ (slot_full _ n _ s.slot_is).1 in
+    crowded why s =
+        let no_room : room n 12 ≡ false = ap (room n) (sym whole) ∙ (slot_refused _ why n _ s.slot_is).1 in
         refused (and_right (is_name text) _ (and_right (not (is_some (flag_number text model.names))) _ (le-ltb (length model.names) 12 (omega (arith, full_at n no_room, count)))))
         (ap (map text_of) s.items_are)
 
-    pub entered : (k : ℕ) → Settled same_text name_turn cells n name (Added k) after
+    pub entered : (k : ℕ) → Settled same_text name_turn cells n name (Ok (Added k)) after
         → (◌≡◌ {A = Result (Unit {0}) FillRefusal} (Ok tt) (flag_answer model text)) × (◌≡◌ {A = FlagsModel} (record { names = map text_of (items after (n + 1)); atoms = atoms }) (flag_leaves model text))
     entered k s =
         let p = slot_added _ k n _ s.slot_is in

@@ -58,13 +58,12 @@ impl Flags {
             return Err(FillRefusal::Variable);
         };
         match find_or_add(&mut self.names, self.count as usize, name) {
-            Slot::Found(_) => Err(FillRefusal::Variable),
-            Slot::Added(_) => {
+            Ok(Slot::Added(_)) => {
                 self.count += 1;
                 Ok(())
             }
-            Slot::Full => Err(FillRefusal::Variable),
-            Slot::Broken => Err(FillRefusal::Variable),
+            Ok(Slot::Found(_)) => Err(FillRefusal::Variable),
+            Err(_) => Err(FillRefusal::Variable),
         }
     }
 

@@ -1,20 +1,20 @@
 use Rattle.flags.proofs.Filling.{taken, crowded, entered}
 use Rattle.flags.proofs.flags.Flags.add_flag.Goals as goal
 
-pub returns-in-Found : goal.returns-in-Found
-returns-in-Found c =
+pub returns-in-Ok-Found : goal.returns-in-Ok-Found
+returns-in-Ok-Found c =
     let t = c.args.self.now in
-    let p = taken t.names t.count _ c.in-Some.name c.args.text.now c.in-Some.ensures t.most t.whole _ _ (c.in-Found.ensures.settled t.indexed) in
+    let p = taken t.names t.count _ c.in-Some.name c.args.text.now c.in-Some.ensures t.most t.whole _ _ (rw c.in-Ok-Found.field-0-is at (c.in-Ok-Found.ensures.settled t.indexed)) in
     record { answer = p.0; after = p.1 }
 
-pub returns-in-Added : goal.returns-in-Added
-returns-in-Added c =
+pub returns-in-Ok-Added : goal.returns-in-Ok-Added
+returns-in-Ok-Added c =
     let t = c.args.self.now in
-    let p = entered t.names t.count _ c.in-Some.name c.args.text.now c.in-Some.ensures t.most t.whole _ _ (c.in-Added.ensures.settled t.indexed) in
+    let p = entered t.names t.count _ c.in-Some.name c.args.text.now c.in-Some.ensures t.most t.whole _ _ (rw c.in-Ok-Added.field-0-is at (c.in-Ok-Added.ensures.settled t.indexed)) in
     record { answer = p.0; after = p.1 }
 
-pub returns-in-Full : goal.returns-in-Full
-returns-in-Full c =
+pub returns-in-Err : goal.returns-in-Err
+returns-in-Err c =
     let t = c.args.self.now in
-    let p = crowded t.names t.count _ c.in-Some.name c.args.text.now c.in-Some.ensures t.most t.whole _ (c.in-Full.ensures.settled t.indexed) in
+    let p = crowded t.names t.count _ c.in-Some.name c.args.text.now c.in-Some.ensures t.most t.whole _ _ (c.in-Err.ensures.settled t.indexed) in
     record { answer = p.0; after = p.1 }
