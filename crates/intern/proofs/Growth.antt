@@ -1,5 +1,5 @@
 -- Indexed cells stay indexed when a record is added where its walk ended.
-use Rattle.std.proofs.Common.{◌≡◌, ℕ, zero, suc, ◌+◌, ◌<◌, ◌≤◌, Bool, true, false, ◌≢◌, ◌⊎◌, List, ◌∷◌, length, get_or, set, Some, None, sym, refl, ap, ◌∙◌, subst, inl, inr, ⊎_elim, add-one, arith}
+use Rattle.std.proofs.Common.{◌≡◌, ℕ, zero, suc, ◌+◌, ◌<◌, ◌≤◌, Bool, true, false, ◌≢◌, ◌⊎◌, List, ◌∷◌, length, get_or, set, Some, None, Ok, sym, refl, ap, ◌∙◌, subst, inl, inr, ⊎_elim, add-one, arith}
 use Rattle.std.proofs.lemmas.List.{length-set, get_or-set_same, get_or-set_other, get_or_default}
 use Rattle.std.proofs.lemmas.Bool.{cases_eq}
 use Rattle.intern.specs.declared.cell.Cell.{Cell}
@@ -7,7 +7,7 @@ use Rattle.intern.specs.declared.descent.End.TheVariants.{Here, Gap}
 use Rattle.intern.specs.Entry.{hung}
 use Rattle.intern.specs.Index.{Indexed}
 use Rattle.intern.specs.Links.{leaf, child_of, linked}
-use Rattle.intern.specs.Walk.{walk, found_at, lookup}
+use Rattle.intern.specs.Walk.{walk, walked_to, lookup}
 use Rattle.intern.proofs.Ends.{here_gap, here_broken, gap_broken, same_gap, gap_found, reached_is}
 use Rattle.intern.proofs.Index.{Index, from_index}
 use Rattle.intern.proofs.Indexes.{some_none, found_here, started}
@@ -44,8 +44,8 @@ module _ {R : Type 0} (alike : R → R → Bool) (turns : R → ℕ → Bool) (c
   item_is : (x : R) (at : ℕ) (b : Bool) → at < n → alike (get_or cells at (leaf x)).item x ≡ b → alike (get_or ds at (leaf x)).item x ≡ b
   item_is x at b lt e = ap (λ (y : R). alike y x) (same_item at (leaf x) lt) ∙ e
 
-  pub walk_kept : (x : R) (f at d k : ℕ) → at < n → walk alike turns cells n x f at d ≡ Here k → walk alike turns ds (suc n) x (suc f) at d ≡ Here k
-  walk_kept x zero at d k lt e = absurd (here_broken _ k e refl)
+  pub walk_kept : (x : R) (f at d k : ℕ) → at < n → walk alike turns cells n x f at d ≡ Ok (Here k) → walk alike turns ds (suc n) x (suc f) at d ≡ Ok (Here k)
+  walk_kept x zero at d k lt e = absurd (here_broken _ k _ e refl)
   walk_kept x (suc f) at d k lt e =
       elim (step alike turns cells n x f at d) [
         | at_item yes-item w ↦ walk_here alike turns ds (suc n) x (suc f) at d (item_is x at true lt yes-item) ∙ sym w ∙ e
@@ -53,12 +53,12 @@ module _ {R : Type 0} (alike : R → R → Bool) (turns : R → ℕ → Bool) (c
         | along to no_item some up below w ↦
             walk_next alike turns ds (suc n) x (suc f) at d to (item_is x at false lt no_item) (kept at to (turns x d) (leaf x) lt some) up (omega arith)
             ∙ walk_kept x f to (suc d) k below (sym w ∙ e)
-        | astray to no_item some off w ↦ absurd (here_broken _ k e w)
+        | astray to no_item some off w ↦ absurd (here_broken _ k _ e w)
       ]
 
   module _ (r : R) (a : ℕ) (s : Bool) (own : alike r r ≡ true) (joined : child_of (get_or ds a (leaf r)) s ≡ Some n) (new : (get_or ds n (leaf r)).item ≡ r) where
-    pub walk_grown : (f at d : ℕ) → at < n → walk alike turns cells n r f at d ≡ Gap a s → walk alike turns ds (suc n) r (suc f) at d ≡ Here n
-    walk_grown zero at d lt e = absurd (gap_broken _ a s e refl)
+    pub walk_grown : (f at d : ℕ) → at < n → walk alike turns cells n r f at d ≡ Ok (Gap a s) → walk alike turns ds (suc n) r (suc f) at d ≡ Ok (Here n)
+    walk_grown zero at d lt e = absurd (gap_broken _ a s _ e refl)
     walk_grown (suc f) at d lt e =
         elim (step alike turns cells n r f at d) [
           | at_item yes-item w ↦ absurd (here_gap _ at a s w e)
@@ -71,21 +71,21 @@ module _ {R : Type 0} (alike : R → R → Bool) (turns : R → ℕ → Bool) (c
           | along to no_item some up below w ↦
               walk_next alike turns ds (suc n) r (suc f) at d to (item_is r at false lt no_item) (kept at to (turns r d) (leaf r) lt some) up (omega arith)
               ∙ walk_grown f to (suc d) below (sym w ∙ e)
-          | astray to no_item some off w ↦ absurd (gap_broken _ a s e w)
+          | astray to no_item some off w ↦ absurd (gap_broken _ a s _ e w)
         ]
 
 lookup_from : {R : Type 0} (alike : R → R → Bool) (turns : R → ℕ → Bool) (ds : List (Cell R)) (n : ℕ) (x : R) (k : ℕ)
-    → n + 1 ≤ length ds → walk alike turns ds (suc n) x (suc n) 0 0 ≡ Here k → lookup alike turns ds (n + 1) x ≡ Some k
+    → n + 1 ≤ length ds → walk alike turns ds (suc n) x (suc n) 0 0 ≡ Ok (Here k) → lookup alike turns ds (n + 1) x ≡ Some k
 lookup_from alike turns ds n x k len w =
-    ap found_at (reached_is alike turns ds (n + 1) x len ∙ subst (λ (m : ℕ). walk alike turns ds m x m 0 0 ≡ Here k) (sym (add-one n)) w)
+    ap walked_to (reached_is alike turns ds (n + 1) x len ∙ subst (λ (m : ℕ). walk alike turns ds m x m 0 0 ≡ Ok (Here k)) (sym (add-one n)) w)
 
 module _ {R : Type 0} (alike : R → R → Bool) (turns : R → ℕ → Bool) (own : (x : R) → alike x x ≡ true) (cells : List (Cell R)) (n : ℕ) (r : R) where
-  module _ (a : ℕ) (s : Bool) (ix : Index alike turns cells n) (w : walk alike turns cells n r n 0 0 ≡ Gap a s) (space : n < length cells) where
+  module _ (a : ℕ) (s : Bool) (ix : Index alike turns cells n) (w : walk alike turns cells n r n 0 0 ≡ Ok (Gap a s)) (space : n < length cells) where
     abbrev ds : List (Cell R)
     ds = hung cells n r a s
 
     filled : 0 < n
-    filled = started alike turns cells n r n 0 0 (gap_broken _ a s w)
+    filled = started alike turns cells n r n 0 0 (gap_broken _ a s _ w)
 
     gap : (a < n) × (child_of (get_or cells a (leaf r)) s ≡ None)
     gap = gap_found alike turns cells n r n 0 0 a s filled w
@@ -153,7 +153,7 @@ module _ {R : Type 0} (alike : R → R → Bool) (turns : R → ℕ → Bool) (o
     placed_old : (k : ℕ) (e : Cell R) → k < n → lookup alike turns ds (n + 1) (get_or ds k e).item ≡ Some k
     placed_old k e lt =
         let x : R = (get_or cells k e).item in
-        let here : walk alike turns cells n x n 0 0 ≡ Here k =
+        let here : walk alike turns cells n x n 0 0 ≡ Ok (Here k) =
         sym (reached_is alike turns cells n x ix.within) ∙ found_here _ k (ix.placed k e lt) in
         ap (lookup alike turns ds (n + 1)) (same_item k e lt)
         ∙ lookup_from alike turns ds n x k fits (walk_kept alike turns cells ds n same_item kept x n 0 0 k filled here)

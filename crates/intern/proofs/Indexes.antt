@@ -1,11 +1,12 @@
 -- What a walk over indexed cells finds.
-use Rattle.std.proofs.Common.{◌≡◌, ℕ, zero, suc, ◌<◌, ◌≤◌, Bool, true, false, List, length, get_or, Some, None, Option, sym, refl, ap, ◌∙◌, ap₂, ⊎_elim, arith}
+use Rattle.std.proofs.Common.{◌≡◌, ℕ, zero, suc, ◌<◌, ◌≤◌, Bool, true, false, List, length, get_or, Some, None, Ok, Err, Option, sym, refl, ap, ◌∙◌, ap₂, ⊎_elim, arith}
 use Rattle.std.proofs.lemmas.Bool.{cases_lt, cond-false, lt-leb}
 use Rattle.intern.specs.declared.cell.Cell.{Cell}
-use Rattle.intern.specs.declared.descent.End.{End}
-use Rattle.intern.specs.declared.descent.End.TheVariants.{Here, Gap, Broken}
+use Rattle.intern.specs.declared.descent.End.TheVariants.{Here, Gap}
+use Rattle.intern.specs.declared.EntryError.{EntryError}
+use Rattle.intern.specs.declared.EntryError.TheVariants.{Broken}
 use Rattle.intern.specs.Links.{leaf}
-use Rattle.intern.specs.Walk.{walk, reached, found_at, lookup}
+use Rattle.intern.specs.Walk.{Walked, walk, reached, walked_to, lookup}
 use Rattle.intern.specs.Index.{items, place}
 use Rattle.intern.proofs.Index.{Index}
 use Rattle.intern.proofs.Ends.{here_broken, gap_broken, here_found, gap_found, never_broken, walk_alike, reached_is}
@@ -26,14 +27,14 @@ pub false_from : (b : Bool) → (b ≡ true → ⊥) → b ≡ false
 false_from true no_way = absurd (no_way refl)
 false_from false no_way = refl
 
-pub found_here : (e : End) (k : ℕ) → found_at e ≡ Some k → e ≡ Here k
-found_here (Here j) k e = ap Here (same_some _ j k refl e)
-found_here (Gap at side) k e = absurd (some_none _ k e refl)
-found_here Broken k e = absurd (some_none _ k e refl)
+pub found_here : (e : Walked) (k : ℕ) → walked_to e ≡ Some k → e ≡ Ok (Here k)
+found_here (Ok (Here j)) k e = ap (λ (x : ℕ). Ok (Here x)) (same_some _ j k refl e)
+found_here (Ok (Gap at side)) k e = absurd (some_none _ k e refl)
+found_here (Err b) k e = absurd (some_none _ k e refl)
 
 -- with no fuel a walk breaks off
 pub started : {R : Type 0} (alike : R → R → Bool) (turns : R → ℕ → Bool) (cells : List (Cell R)) (n : ℕ) (r : R) (f at d : ℕ)
-    → (walk alike turns cells n r f at d ≡ Broken → ⊥) → 0 < f
+    → (walk alike turns cells n r f at d ≡ Err Broken → ⊥) → 0 < f
 started alike turns cells n r zero at d h = absurd (h refl)
 started alike turns cells n r (suc f) at d h = omega arith
 
@@ -54,7 +55,7 @@ module _ {R : Type 0} (alike : R → R → Bool) (turns : R → ℕ → Bool)
       let z : n ≡ 0 = omega arith in
       ap (λ (f : ℕ). walk alike turns cells n x f 0 0) z ∙ sym (ap (λ (f : ℕ). walk alike turns cells n r f 0 0) z))
       (cases_lt 0 n) in
-      ap found_at (reached_is alike turns cells n x len ∙ walks ∙ sym (reached_is alike turns cells n r len))
+      ap walked_to (reached_is alike turns cells n x len ∙ walks ∙ sym (reached_is alike turns cells n r len))
 
   module _ (r : R) (ix : Index alike turns cells n) where
     item_at : (k : ℕ) → k < n → get_or (items cells n) k r ≡ (get_or cells k (leaf r)).item
@@ -66,8 +67,8 @@ module _ {R : Type 0} (alike : R → R → Bool) (turns : R → ℕ → Bool)
 
     pub found_item : (k : ℕ) → lookup alike turns cells n r ≡ Some k → (k < n) × (alike (get_or cells k (leaf r)).item r ≡ true)
     found_item k e =
-        let w : walk alike turns cells n r n 0 0 ≡ Here k = sym (reached_is alike turns cells n r ix.within) ∙ found_here _ k e in
-        here_found alike turns cells n r n 0 0 k (started alike turns cells n r n 0 0 (here_broken _ k w)) w
+        let w : walk alike turns cells n r n 0 0 ≡ Ok (Here k) = sym (reached_is alike turns cells n r ix.within) ∙ found_here _ k e in
+        here_found alike turns cells n r n 0 0 k (started alike turns cells n r n 0 0 (here_broken _ k _ w)) w
 
     -- no two items of indexed cells are equal
     pub items_apart : (j k : ℕ) → j < n → k < n → alike (get_or (items cells n) j r) (get_or (items cells n) k r) ≡ true → j ≡ k
@@ -97,16 +98,16 @@ module _ {R : Type 0} (alike : R → R → Bool) (turns : R → ℕ → Bool)
     pub lookup_place : lookup alike turns cells n r ≡ place alike r (items cells n)
     lookup_place = sym (place_by (lookup alike turns cells n r) refl)
 
-    pub walks_whole : 0 < n → reached alike turns cells n r ≡ Broken → ⊥
-    walks_whole pos e =
-        never_broken alike turns cells n r ix.links n 0 0 pos (omega arith) (sym (reached_is alike turns cells n r ix.within) ∙ e)
+    pub walks_whole : 0 < n → (why : EntryError) → reached alike turns cells n r ≡ Err why → ⊥
+    walks_whole pos why e =
+        never_broken alike turns cells n r ix.links n 0 0 why pos (omega arith) (sym (reached_is alike turns cells n r ix.within) ∙ e)
 
 -- a gap that was reached is at a filled cell, and the cells go as far
 pub gap_within : {R : Type 0} (alike : R → R → Bool) (turns : R → ℕ → Bool) (cells : List (Cell R)) (n : ℕ) (r : R) (a : ℕ) (s : Bool)
-    → 0 < n → Gap a s ≡ reached alike turns cells n r → (a < n) × (n ≤ length cells)
+    → 0 < n → Ok (Gap a s) ≡ reached alike turns cells n r → (a < n) × (n ≤ length cells)
 gap_within alike turns cells n r a s pos e =
     ⊎_elim
-    (λ (past : length cells < n). absurd (gap_broken _ a s (sym e) (cond-false _ _ _ (lt-leb n (length cells) past))))
+    (λ (past : length cells < n). absurd (gap_broken _ a s _ (sym e) (cond-false _ _ _ (lt-leb n (length cells) past))))
     (λ (len : n ≤ length cells).
     ((gap_found alike turns cells n r n 0 0 a s pos (sym (reached_is alike turns cells n r len) ∙ sym e)).0, len))
     (cases_lt (length cells) n)

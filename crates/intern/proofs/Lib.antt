@@ -6,5 +6,4 @@ pub mod Index
 pub mod Indexes
 pub mod Growth
 pub mod Settling
-pub mod Entering
 pub mod Slots

@@ -1,15 +1,16 @@
 -- What finding a record or adding it does to indexed cells.
-use Rattle.std.proofs.Common.{◌≡◌, ℕ, ◌+◌, ◌<◌, ◌≤◌, Bool, true, false, eqb, ◌≢◌, List, [], ◌∷◌, ◌++◌, map, length, get_or, take, drop, set, Some, None, Option, sym, refl, ap, ◌∙◌, subst, arith}
+use Rattle.std.proofs.Common.{◌≡◌, ℕ, ◌+◌, ◌<◌, ◌≤◌, Bool, true, false, eqb, ◌≢◌, List, [], ◌∷◌, ◌++◌, map, length, get_or, take, drop, set, Some, None, Ok, Err, Option, Result, sym, refl, ap, ◌∙◌, subst, arith}
 use Rattle.std.proofs.lemmas.List.{length-set, get_or-set_other, get_or-map, set-get_or, map-set, take-map, map_push, take_more_set, drop-set-lt}
 use Rattle.std.proofs.lemmas.Bool.{and_parts, ltb-true, eqb-true, eqb-false, cond-true, cond-false}
 use Rattle.intern.specs.declared.cell.Cell.{Cell}
-use Rattle.intern.specs.declared.descent.End.{End}
 use Rattle.intern.specs.declared.descent.End.TheVariants as ends
+use Rattle.intern.specs.declared.EntryError.{EntryError}
+use Rattle.intern.specs.declared.EntryError.TheVariants.{Full}
 use Rattle.intern.specs.declared.Slot.{Slot}
-use Rattle.intern.specs.declared.Slot.TheVariants.{Found, Added, Full}
+use Rattle.intern.specs.declared.Slot.TheVariants.{Found, Added}
 use Rattle.intern.specs.Entry.{room, new_slot, hung, with_first, with_hung, slot_at, cells_at, slot_answer, cells_after}
 use Rattle.intern.specs.Links.{leaf, linked}
-use Rattle.intern.specs.Walk.{walk, reached, found_at}
+use Rattle.intern.specs.Walk.{Walked, walk, reached, walked_to}
 use Rattle.intern.specs.Index.{items, place, Indexed}
 use Rattle.intern.specs.Settled.{slot_of, Settled}
 use Rattle.intern.proofs.Ends.{gap_found, reached_is}
@@ -52,16 +53,16 @@ module _ {R : Type 0} (alike : R → R → Bool) (turns : R → ℕ → Bool)
   ix : Index alike turns cells n
   ix = to_index alike turns cells n indexed-cells
 
-  abbrev Done : Slot → List (Cell R) → Type 0
+  abbrev Done : Result Slot EntryError → List (Cell R) → Type 0
   Done s ds = Settled alike turns cells n r s ds
 
-  done_at : (s t : Slot) (cs ds : List (Cell R)) → s ≡ t → cs ≡ ds → Done t ds → Done s cs
-  done_at s t cs ds es ec h = subst (λ (x : Slot). Done x cs) (sym es) (subst (Done t) (sym ec) h)
+  done_at : (s t : Result Slot EntryError) (cs ds : List (Cell R)) → s ≡ t → cs ≡ ds → Done t ds → Done s cs
+  done_at s t cs ds es ec h = subst (λ (x : Result Slot EntryError). Done x cs) (sym es) (subst (Done t) (sym ec) h)
 
   abbrev at_place : Option ℕ
   at_place = place alike r (items cells n)
 
-  found : (k : ℕ) → at_place ≡ Some k → Done (Found k) cells
+  found : (k : ℕ) → at_place ≡ Some k → Done (Ok (Found k)) cells
   found k e =
       record {
         slot_is = ap (λ (o : Option ℕ). slot_of o n (length cells)) (sym e);
@@ -72,7 +73,7 @@ module _ {R : Type 0} (alike : R → R → Bool) (turns : R → ℕ → Bool)
         rest_kept = refl;
       }
 
-  full : at_place ≡ None → room n (length cells) ≡ false → Done Full cells
+  full : at_place ≡ None → room n (length cells) ≡ false → Done (Err Full) cells
   full e no_room =
       record {
         slot_is = sym (ap (λ (o : Option ℕ). slot_of o n (length cells)) e ∙ cond-false _ _ _ no_room);
@@ -84,7 +85,7 @@ module _ {R : Type 0} (alike : R → R → Bool) (turns : R → ℕ → Bool)
       }
 
   added : (ds : List (Cell R)) → at_place ≡ None → room n (length cells) ≡ true → items ds (n + 1) ≡ items cells n ++ r ∷ []
-      → Indexed alike turns ds (n + 1) → length ds ≡ length cells → drop (n + 1) ds ≡ drop (n + 1) cells → Done (Added n) ds
+      → Indexed alike turns ds (n + 1) → length ds ≡ length cells → drop (n + 1) ds ≡ drop (n + 1) cells → Done (Ok (Added n)) ds
   added ds e has_room is idx len rest =
       record {
         slot_is = sym (ap (λ (o : Option ℕ). slot_of o n (length cells)) e ∙ cond-true _ _ _ has_room);
@@ -101,33 +102,33 @@ module _ {R : Type 0} (alike : R → R → Bool) (turns : R → ℕ → Bool)
   -- no cell is filled yet
   done_first : n ≡ 0 → (b : Bool) → room n (length cells) ≡ b → Done (new_slot n (length cells)) (with_first cells n r)
   done_first z true e =
-      done_at _ (Added n) _ (set cells n (leaf r)) (cond-true _ _ _ e) (cond-true _ _ _ e)
+      done_at _ (Ok (Added n)) _ (set cells n (leaf r)) (cond-true _ _ _ e) (cond-true _ _ _ e)
       (added (set cells n (leaf r)) (ap (λ (m : ℕ). place alike r (items cells m)) z) e (items_put cells n r (space e))
       (from_index alike turns _ _ (indexed_first alike turns own cells n r z (space e))) (length-set cells n (leaf r))
       (drop-set-lt (n + 1) cells n (leaf r) (omega arith)))
   done_first z false e =
-      done_at _ Full _ cells (cond-false _ _ _ e) (cond-false _ _ _ e) (full (ap (λ (m : ℕ). place alike r (items cells m)) z) e)
+      done_at _ (Err Full) _ cells (cond-false _ _ _ e) (cond-false _ _ _ e) (full (ap (λ (m : ℕ). place alike r (items cells m)) z) e)
 
-  none_there : (a : ℕ) (s : Bool) → reached alike turns cells n r ≡ ends.Gap a s → at_place ≡ None
-  none_there a s e = sym (lookup_place alike turns symmetric transitive agree cells n r ix) ∙ ap found_at e
+  none_there : (a : ℕ) (s : Bool) → reached alike turns cells n r ≡ Ok (ends.Gap a s) → at_place ≡ None
+  none_there a s e = sym (lookup_place alike turns symmetric transitive agree cells n r ix) ∙ ap walked_to e
 
-  done_gap : 0 < n → (a : ℕ) (s : Bool) → reached alike turns cells n r ≡ ends.Gap a s → (b : Bool) → room n (length cells) ≡ b
+  done_gap : 0 < n → (a : ℕ) (s : Bool) → reached alike turns cells n r ≡ Ok (ends.Gap a s) → (b : Bool) → room n (length cells) ≡ b
       → Done (new_slot n (length cells)) (with_hung cells n r a s)
   done_gap pos a s e true has_room =
-      let w : walk alike turns cells n r n 0 0 ≡ ends.Gap a s = sym (reached_is alike turns cells n r ix.within) ∙ e in
+      let w : walk alike turns cells n r n 0 0 ≡ Ok (ends.Gap a s) = sym (reached_is alike turns cells n r ix.within) ∙ e in
       let gap = gap_found alike turns cells n r n 0 0 a s pos w in
-      done_at _ (Added n) _ (hung cells n r a s) (cond-true _ _ _ has_room) (cond-true _ _ _ has_room)
+      done_at _ (Ok (Added n)) _ (hung cells n r a s) (cond-true _ _ _ has_room) (cond-true _ _ _ has_room)
       (added (hung cells n r a s) (none_there a s e) has_room (items_hung cells n r a s gap.0 (space has_room))
       (from_index alike turns _ _ (indexed_hung alike turns own cells n r a s ix w (space has_room)))
       (length-set (set cells n (leaf r)) a _ ∙ length-set cells n (leaf r))
       (drop-set-lt (n + 1) (set cells n (leaf r)) a _ (omega (arith, gap.0)) ∙ drop-set-lt (n + 1) cells n (leaf r) (omega arith)))
   done_gap pos a s e false no_room =
-      done_at _ Full _ cells (cond-false _ _ _ no_room) (cond-false _ _ _ no_room) (full (none_there a s e) no_room)
+      done_at _ (Err Full) _ cells (cond-false _ _ _ no_room) (cond-false _ _ _ no_room) (full (none_there a s e) no_room)
 
-  done_end : 0 < n → (e : End) → reached alike turns cells n r ≡ e → Done (slot_at n (length cells) e) (cells_at cells n r e)
-  done_end pos (ends.Here k) e = found k (sym (lookup_place alike turns symmetric transitive agree cells n r ix) ∙ ap found_at e)
-  done_end pos (ends.Gap a s) e = done_gap pos a s e (room n (length cells)) refl
-  done_end pos ends.Broken e = absurd (walks_whole alike turns symmetric transitive agree cells n r ix pos e)
+  done_end : 0 < n → (e : Walked) → reached alike turns cells n r ≡ e → Done (slot_at n (length cells) e) (cells_at cells n r e)
+  done_end pos (Ok (ends.Here k)) e = found k (sym (lookup_place alike turns symmetric transitive agree cells n r ix) ∙ ap walked_to e)
+  done_end pos (Ok (ends.Gap a s)) e = done_gap pos a s e (room n (length cells)) refl
+  done_end pos (Err why) e = absurd (walks_whole alike turns symmetric transitive agree cells n r ix pos why e)
 
   done_by : (b : Bool) → eqb n 0 ≡ b → Done (slot_answer alike turns cells n r) (cells_after alike turns cells n r)
   done_by true e = done_at _ _ _ _ (cond-true _ _ _ e) (cond-true _ _ _ e) (done_first (eqb-true n 0 e) (room n (length cells)) refl)
@@ -135,5 +136,5 @@ module _ {R : Type 0} (alike : R → R → Bool) (turns : R → ℕ → Bool)
       let ne : n ≡ 0 → ⊥ = eqb-false n 0 e in
       done_at _ _ _ _ (cond-false _ _ _ e) (cond-false _ _ _ e) (done_end (omega arith) (reached alike turns cells n r) refl)
 
-  pub settles : (s : Slot) (ds : List (Cell R)) → s ≡ slot_answer alike turns cells n r → ds ≡ cells_after alike turns cells n r → Done s ds
+  pub settles : (s : Result Slot EntryError) (ds : List (Cell R)) → s ≡ slot_answer alike turns cells n r → ds ≡ cells_after alike turns cells n r → Done s ds
   settles s ds es ec = done_at s _ ds _ es ec (done_by (eqb n 0) refl)

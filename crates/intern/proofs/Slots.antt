@@ -1,43 +1,49 @@
 -- What a slot says of the record's place.
-use Rattle.std.proofs.Common.{◌≡◌, ℕ, suc, ◌<◌, Bool, true, false, cond, List, [], ◌∷◌, length, Some, None, Option, sym, refl, ◌∙◌, inl, inr, arith}
+use Rattle.std.proofs.Common.{◌≡◌, ℕ, suc, ◌<◌, Bool, true, false, cond, List, [], ◌∷◌, length, Some, None, Ok, Err, Option, Result, sym, refl, ◌∙◌, inl, inr, arith}
+use Rattle.std.specs.Result.{result_ok}
 use Rattle.std.proofs.lemmas.Bool.{cond-true, cond-false, cases_Bool}
 use Rattle.intern.specs.declared.Slot.{Slot}
-use Rattle.intern.specs.declared.Slot.TheVariants.{Found, Added, Full, Broken}
+use Rattle.intern.specs.declared.Slot.TheVariants.{Found, Added}
+use Rattle.intern.specs.declared.EntryError.{EntryError}
+use Rattle.intern.specs.declared.EntryError.TheVariants.{Full}
 use Rattle.intern.specs.Entry.{room}
 use Rattle.intern.specs.Index.{further, place}
 use Rattle.intern.specs.Settled.{slot_of}
 
-never : (s : Slot) (k n : ℕ) (b : Bool) → s ≡ cond b (Added n) Full → s ≡ Found k → ⊥
+-- a new record's slot is no found one
+never : (s : Result Slot EntryError) (k n : ℕ) (b : Bool) → s ≡ cond b (Ok (Added n)) (Err Full) → s ≡ Ok (Found k) → ⊥
 never s k n true e f = let z : ◌≡◌ {A = ℕ} 0 1 = cc in omega arith
 never s k n false e f = let z : ◌≡◌ {A = ℕ} 0 1 = cc in omega arith
 
-new_added : (s : Slot) (k n : ℕ) (b : Bool) → s ≡ cond b (Added n) Full → s ≡ Added k → (k ≡ n) × (b ≡ true)
+new_added : (s : Result Slot EntryError) (k n : ℕ) (b : Bool) → s ≡ cond b (Ok (Added n)) (Err Full) → s ≡ Ok (Added k) → (k ≡ n) × (b ≡ true)
 new_added s k n true e f = (cc, refl)
 new_added s k n false e f = let z : ◌≡◌ {A = ℕ} 0 1 = cc in absurd (omega arith)
 
-new_full : (s : Slot) (n : ℕ) (b : Bool) → s ≡ cond b (Added n) Full → s ≡ Full → b ≡ false
-new_full s n true e f = let z : ◌≡◌ {A = ℕ} 0 1 = cc in absurd (omega arith)
-new_full s n false e f = refl
+new_refused : (s : Result Slot EntryError) (n : ℕ) (why : EntryError) (b : Bool) → s ≡ cond b (Ok (Added n)) (Err Full) → s ≡ Err why → b ≡ false
+new_refused s n why true e f = let z : ◌≡◌ {A = ℕ} 0 1 = cc in absurd (omega arith)
+new_refused s n why false e f = refl
 
-new_broken : (s : Slot) (n : ℕ) (b : Bool) → s ≡ cond b (Added n) Full → s ≡ Broken → ⊥
-new_broken s n true e f = let z : ◌≡◌ {A = ℕ} 0 1 = cc in omega arith
-new_broken s n false e f = let z : ◌≡◌ {A = ℕ} 0 1 = cc in omega arith
-
-pub slot_found : (o : Option ℕ) (k n len : ℕ) → Found k ≡ slot_of o n len → o ≡ Some k
+pub slot_found : (o : Option ℕ) (k n len : ℕ) → Ok (Found k) ≡ slot_of o n len → o ≡ Some k
 slot_found (Some j) k n len e = cc
-slot_found None k n len e = absurd (never (Found k) k n (room n len) e refl)
+slot_found None k n len e = absurd (never (Ok (Found k)) k n (room n len) e refl)
 
-pub slot_added : (o : Option ℕ) (k n len : ℕ) → Added k ≡ slot_of o n len → (o ≡ None) × (k ≡ n) × (room n len ≡ true)
+pub slot_added : (o : Option ℕ) (k n len : ℕ) → Ok (Added k) ≡ slot_of o n len → (o ≡ None) × (k ≡ n) × (room n len ≡ true)
 slot_added (Some j) k n len e = let z : ◌≡◌ {A = ℕ} 0 1 = cc in absurd (omega arith)
-slot_added None k n len e = let p = new_added (Added k) k n (room n len) e refl in (refl, p.0, p.1)
+slot_added None k n len e = let p = new_added (Ok (Added k)) k n (room n len) e refl in (refl, p.0, p.1)
 
-pub slot_full : (o : Option ℕ) (n len : ℕ) → Full ≡ slot_of o n len → (o ≡ None) × (room n len ≡ false)
-slot_full (Some j) n len e = let z : ◌≡◌ {A = ℕ} 0 1 = cc in absurd (omega arith)
-slot_full None n len e = (refl, new_full Full n (room n len) e refl)
+-- among indexed cells a record is refused only where there is no room
+pub slot_refused : (o : Option ℕ) (why : EntryError) (n len : ℕ) → Err why ≡ slot_of o n len → (o ≡ None) × (room n len ≡ false)
+slot_refused (Some j) why n len e = let z : ◌≡◌ {A = ℕ} 0 1 = cc in absurd (omega arith)
+slot_refused None why n len e = (refl, new_refused (Err why) n why (room n len) e refl)
 
-pub slot_broken : (o : Option ℕ) (n len : ℕ) → Broken ≡ slot_of o n len → ⊥
-slot_broken (Some j) n len e = let z : ◌≡◌ {A = ℕ} 0 1 = cc in omega arith
-slot_broken None n len e = new_broken Broken n (room n len) e refl
+-- an answer by what `ok` makes of it
+pub is_slot : (s : Result Slot EntryError) (x : Slot) → Some x ≡ result_ok s → s ≡ Ok x
+is_slot (Ok y) x e = cc
+is_slot (Err why) x e = let z : ◌≡◌ {A = ℕ} 0 1 = cc in absurd (omega arith)
+
+pub is_refused : (s : Result Slot EntryError) → None ≡ result_ok s → (why : EntryError) × (s ≡ Err why)
+is_refused (Ok y) e = let z : ◌≡◌ {A = ℕ} 0 1 = cc in absurd (omega arith)
+is_refused (Err why) e = (why, refl)
 
 further_below : (o : Option ℕ) (k n : ℕ) → ((j : ℕ) → o ≡ Some j → j < n) → further o ≡ Some k → k < suc n
 further_below (Some j) k n below e = let is : suc j ≡ k = cc in omega (arith, below j refl)

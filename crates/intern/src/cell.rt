@@ -2,6 +2,7 @@ ghost use Rattle.std.specs.Prelude.{◌≡◌};
 ghost use Rattle.intern.specs.Links.{leaf, child_of, linked};
 
 /// A record, with links to the cells where a walk goes on to the left and to the right.
+// The links are indices, not boxes: nothing here touches the heap.
 #[derive(Clone, Copy, Drop)]
 pub struct Cell<R> {
     pub item: R,
@@ -32,18 +33,11 @@ impl<R: Copy> Cell<R> {
     pub(crate) fn link(self, right: bool, to: u32) -> Cell<R>
         ensures { result ≡ linked self right to }
     {
+        let to = Some(to);
         if right {
-            Cell {
-                item: self.item,
-                left: self.left,
-                right: Some(to),
-            }
+            Cell { right: to, ..self }
         } else {
-            Cell {
-                item: self.item,
-                left: Some(to),
-                right: self.right,
-            }
+            Cell { left: to, ..self }
         }
     }
 }

@@ -1,7 +1,7 @@
 ghost use Rattle.std.specs.Prelude.{◌≡◌};
 ghost use Rattle.intern.specs.Walk.{reached, found_at};
 
-use crate::{Cell, Keyed};
+use crate::{Cell, EntryError, Keyed};
 
 /// Where the walk for a record ends.
 #[derive(Clone, Copy, Drop)]
@@ -10,8 +10,6 @@ pub enum End {
     Here(usize),
     /// At a cell with no link on the side where the walk would go on.
     Gap { at: usize, right: bool },
-    /// At a link that does not lead to a later filled cell.
-    Broken,
 }
 
 impl End {
@@ -22,39 +20,38 @@ impl End {
         match self {
             End::Here(at) => Some(at),
             End::Gap { .. } => None,
-            End::Broken => None,
         }
     }
 }
 
 /// Walks from cell 0 along the turns of `r`.
 ///
-/// Broken where `filled` is 0 or past the cells.
-pub(crate) fn descend<R: Keyed + Copy>(cells: &[Cell<R>], filled: usize, r: R) -> End
+/// Errors: `Broken` where `filled` is 0 or past the cells, or a link does not lead to a later filled cell.
+pub(crate) fn descend<R: Keyed + Copy>(
+    cells: &[Cell<R>],
+    filled: usize,
+    r: R,
+) -> Result<End, EntryError>
     ensures { result ≡ reached R.Keyed.alike R.Keyed.turns cells.now filled r }
 {
-    if filled == 0 || filled > cells.len() {
-        return End::Broken;
+    if filled > cells.len() {
+        return Err(EntryError::Broken);
     }
     let mut at = 0;
-    let mut depth = 0;
-    'walk: loop {
+    for depth in 0..filled {
         let here = cells[at];
         if here.item == r {
-            return End::Here(at);
+            return Ok(End::Here(at));
         }
         let right = r.turn(depth);
         let Some(link) = here.child(right) else {
-            return End::Gap { at, right };
+            return Ok(End::Gap { at, right });
         };
         let next = link as usize;
-        if next <= at {
-            return End::Broken;
-        }
-        if next >= filled {
-            return End::Broken;
+        if next <= at || next >= filled {
+            return Err(EntryError::Broken);
         }
         at = next;
-        depth += 1;
     }
+    Err(EntryError::Broken)
 }

@@ -20,11 +20,16 @@ pub use keyed::Keyed;
 // The greatest cell number that fits a link.
 const LAST_LINK: usize = 4_294_967_295;
 
-/// What became of a record: the cell where it was found or added, or why it was not added.
+/// The cell of a record: where it was found, or where it was added.
 #[derive(Clone, Copy, PartialEq, Eq, Debug, Drop)]
 pub enum Slot {
     Found(usize),
     Added(usize),
+}
+
+/// Why a record was neither found nor added.
+#[derive(Clone, Copy, PartialEq, Eq, Debug, Drop)]
+pub enum EntryError {
     /// No cell is left, or the new cell's number does not fit a link.
     Full,
     /// `filled` is past the cells, or a link does not lead to a later filled cell.
@@ -38,13 +43,17 @@ pub fn find<R: Keyed + Copy>(cells: &[Cell<R>], filled: usize, r: R) -> Option<u
     ensures answer { result ≡ lookup R.Keyed.alike R.Keyed.turns cells.now filled r }
     ensures first { Indexed R.Keyed.alike R.Keyed.turns cells.now filled → result ≡ place R.Keyed.alike r (items cells.now filled) }
 {
-    descend(cells, filled, r).found()
+    descend(cells, filled, r).ok()?.found()
 }
 
 /// Finds the cell, among the first `filled`, whose item equals `r`, or adds `r` in the cell after them.
 ///
-/// Where it answers `Found`, `Full` or `Broken` the cells are unchanged.
-pub fn find_or_add<R: Keyed + Copy>(cells: &mut [Cell<R>], filled: usize, r: R) -> Slot
+/// Where the record is found, and on an error, the cells are unchanged.
+pub fn find_or_add<R: Keyed + Copy>(
+    cells: &mut [Cell<R>],
+    filled: usize,
+    r: R,
+) -> Result<Slot, EntryError>
     ensures answer { result ≡ slot_answer R.Keyed.alike R.Keyed.turns cells.old filled r }
     ensures after { cells.new ≡ cells_after R.Keyed.alike R.Keyed.turns cells.old filled r }
     ensures settled { Indexed R.Keyed.alike R.Keyed.turns cells.old filled → Settled R.Keyed.alike R.Keyed.turns cells.old filled r result cells.new }
@@ -53,43 +62,44 @@ pub fn find_or_add<R: Keyed + Copy>(cells: &mut [Cell<R>], filled: usize, r: R) 
 }
 
 // Adds `r` where its walk ends at a gap.
-fn enter<R: Keyed + Copy>(cells: &mut [Cell<R>], filled: usize, r: R) -> Slot
+fn enter<R: Keyed + Copy>(cells: &mut [Cell<R>], filled: usize, r: R) -> Result<Slot, EntryError>
     ensures answer { result ≡ slot_answer R.Keyed.alike R.Keyed.turns cells.old filled r }
     ensures after { cells.new ≡ cells_after R.Keyed.alike R.Keyed.turns cells.old filled r }
 {
     if filled == 0 {
         return put(cells, filled, r);
     }
-    match descend(cells, filled, r) {
-        End::Here(at) => Slot::Found(at),
+    match descend(cells, filled, r)? {
+        End::Here(at) => Ok(Slot::Found(at)),
         End::Gap { at, right } => hang(cells, filled, r, at, right),
-        End::Broken => Slot::Broken,
     }
 }
 
 // Puts `r` into the cell after the filled ones, with no link to it.
-fn put<R: Copy>(cells: &mut [Cell<R>], filled: usize, r: R) -> Slot
+fn put<R: Copy>(cells: &mut [Cell<R>], filled: usize, r: R) -> Result<Slot, EntryError>
     ensures answer { result ≡ new_slot filled (length cells.old) }
     ensures after { cells.new ≡ with_first cells.old filled r }
 {
     if filled >= cells.len() || filled > LAST_LINK {
-        return Slot::Full;
+        return Err(EntryError::Full);
     }
     cells[filled] = Cell::new(r);
-    Slot::Added(filled)
+    Ok(Slot::Added(filled))
 }
 
 // Puts `r` into the cell after the filled ones, linked from the cell `at`.
-fn hang<R: Copy>(cells: &mut [Cell<R>], filled: usize, r: R, at: usize, right: bool) -> Slot
+fn hang<R: Copy>(
+    cells: &mut [Cell<R>],
+    filled: usize,
+    r: R,
+    at: usize,
+    right: bool,
+) -> Result<Slot, EntryError>
     requires { (at < filled) × (filled ≤ length cells.old) }
     ensures answer { result ≡ new_slot filled (length cells.old) }
     ensures after { cells.new ≡ with_hung cells.old filled r at right }
 {
-    if filled >= cells.len() || filled > LAST_LINK {
-        return Slot::Full;
-    }
-    let above = cells[at].link(right, filled as u32);
-    cells[filled] = Cell::new(r);
-    cells[at] = above;
-    Slot::Added(filled)
+    let slot = put(cells, filled, r)?;
+    cells[at] = cells[at].link(right, filled as u32);
+    Ok(slot)
 }

@@ -1,6 +1,5 @@
 -- Every book is proper.
-use Rattle.std.proofs.Common.{◌≡◌, ℕ, ◌<◌, ◌≤◌, length, get_or, take, sym, ◌∙◌, arith}
-use Rattle.std.proofs.lemmas.List.{length-take-le, get_or-take}
+use Rattle.std.proofs.Common.{◌≡◌, ◌≤◌, length, arith}
 use Rattle.intern.specs.Index.{items}
 use Rattle.intern.proofs.Places.{length_items}
 use Rattle.ltlf.specs.Contents.{draft_contents, book_contents, Proper}
@@ -10,13 +9,11 @@ use Rattle.ltlf.specs.declared.draft.Draft.{Draft}
 pub draft_proper : (d : Draft) → Proper (draft_contents d)
 draft_proper d =
     let size : length (items d.cells d.len) ≡ d.len = length_items d.cells d.len (omega arith) in
-    let ruled : length (take d.named d.rules) ≡ d.named = length-take-le d.named d.rules (omega arith) in
-    let rule : (i : ℕ) → i < d.named → get_or (take d.named d.rules) i 0 ≡ get_or d.rules i 0 = λ i h. get_or-take d.named d.rules i 0 h in
     record {
       few = omega arith;
       before = λ k h. d.before k (omega arith);
-      were_put = λ i h. let h' : i < d.named = omega arith in omega (arith, rule i h', d.stood i h');
-      apart = λ i j lt h e. let h' : j < d.named = omega arith in let g : i < d.named = omega arith in d.apart i j lt h' (sym (rule i g) ∙ e ∙ rule j h');
+      were_put = λ i h. omega (arith, d.stood i h);
+      apart = d.apart;
     }
 
 pub book_proper : (b : Book) → Proper (book_contents b)

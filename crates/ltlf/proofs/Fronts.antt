@@ -1,19 +1,11 @@
 -- The first entries of an array.
-use Rattle.std.proofs.Common.{◌≡◌, ℕ, ◌<◌, ◌≤◌, true, false, cond, ltb, List, length, get_or, take, Ok, Err, sym, ap, ◌∙◌, arith}
+use Rattle.std.proofs.Common.{◌≡◌, ℕ, ◌<◌, ◌≤◌, true, false, cond, ltb, List, length, get_or, Ok, Err, sym, ap, ◌∙◌, arith}
 use Rattle.intern.specs.Index.{items}
 use Rattle.intern.specs.declared.cell.Cell.{Cell}
 use Rattle.intern.proofs.Places.{length_items, items_at}
-use Rattle.std.proofs.lemmas.List.{length-take-le, get_or-take, get_or_default}
+use Rattle.std.proofs.lemmas.List.{get_or_default}
 use Rattle.std.proofs.lemmas.Bool.{cond-true}
 use Rattle.std.proofs.lemmas.Bool.Decides.{nat_tests}
-
--- what is read at a place among the first n
-pub read_front : {X E : Type 0} (xs : List X) (n k : ℕ) (d : X) (e : E) → n ≤ length xs → k < n
-    → Ok (get_or xs k d) ≡ cond (ltb k (length (take n xs))) (Ok (get_or (take n xs) k d)) (Err e)
-read_front xs n k d e fits within =
-    let size = length-take-le n xs fits in
-    let here : ltb k (length (take n xs)) ≡ true = grind (arith, nat_tests) in
-    ap (λ x. Ok x) (sym (get_or-take n xs k d within)) ∙ sym (ap (λ b. cond b (Ok (get_or (take n xs) k d)) (Err e)) here)
 
 -- an item that was put, and one that was not
 pub was_put : {X : Type 0} (cells : List (Cell X)) (n k : ℕ) → n ≤ length cells → k < n → ltb k (length (items cells n)) ≡ true

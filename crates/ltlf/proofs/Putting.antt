@@ -4,12 +4,13 @@ use Rattle.std.proofs.lemmas.List.{get_or_append_left, get_or_push}
 use Rattle.std.proofs.lemmas.Bool.{cond-true, cond-false, and_parts, and_cases, ltb-true, ltb-false, lt-ltb, le-ltb, cases_eq}
 use Rattle.refusal.specs.declared.Refusal.TheVariants.{Unknown, TooManyFormulas}
 use Rattle.intern.specs.declared.cell.Cell.{Cell}
-use Rattle.intern.specs.declared.Slot.TheVariants.{Found, Added, Full, Broken}
+use Rattle.intern.specs.declared.EntryError.{EntryError}
+use Rattle.intern.specs.declared.Slot.TheVariants.{Found, Added}
 use Rattle.intern.specs.Entry.{room}
 use Rattle.intern.specs.Index.{items, place}
 use Rattle.intern.specs.Settled.{Settled}
 use Rattle.intern.proofs.Places.{length_items}
-use Rattle.intern.proofs.Slots.{slot_found, slot_added, slot_full, slot_broken, place_below}
+use Rattle.intern.proofs.Slots.{slot_found, slot_added, slot_refused, place_below}
 use Rattle.ltlf.specs.Nodes.{known, same, node_turn}
 use Rattle.ltlf.specs.Contents.{Contents, numbered, put_answer, with_new, put_leaves}
 use Rattle.ltlf.specs.declared.node.Node.{Node}
@@ -56,7 +57,7 @@ module _ (codes atoms : ℕ) (rules : List ℕ) (cells : List (Cell Node)) (n : 
         ∙ ap holding (sym (ap (λ k. cond (known atoms k node) (with_new node (items cells n) (place same node (items cells n))) (items cells n)) size ∙ cond-true _ _ _ (sym there)))
 
     -- the node was put before
-    module _ (k : ℕ) (after : List (Cell Node)) (s : Settled same node_turn cells n node (Found k) after) where
+    module _ (k : ℕ) (after : List (Cell Node)) (s : Settled same node_turn cells n node (Ok (Found k)) after) where
       stands : place same node (items cells n) ≡ Some k
       stands = slot_found (place same node (items cells n)) k n (length cells) s.slot_is
 
@@ -67,7 +68,7 @@ module _ (codes atoms : ℕ) (rules : List ℕ) (cells : List (Cell Node)) (n : 
       put_found = (known_answer (Some k) stands, ap holding s.items_are ∙ known_leaves (Some k) stands)
 
     -- the node is new
-    module _ (k : ℕ) (after : List (Cell Node)) (s : Settled same node_turn cells n node (Added k) after) where
+    module _ (k : ℕ) (after : List (Cell Node)) (s : Settled same node_turn cells n node (Ok (Added k)) after) where
       slot : (place same node (items cells n) ≡ None) × (k ≡ n) × (room n (length cells) ≡ true)
       slot = slot_added (place same node (items cells n)) k n (length cells) s.slot_is
 
@@ -95,9 +96,9 @@ module _ (codes atoms : ℕ) (rules : List ℕ) (cells : List (Cell Node)) (n : 
       ]
 
     -- there is no room
-    module _ (after : List (Cell Node)) (s : Settled same node_turn cells n node Full after) where
+    module _ (why : EntryError) (after : List (Cell Node)) (s : Settled same node_turn cells n node (Err why) after) where
       slot_none : (place same node (items cells n) ≡ None) × (room n (length cells) ≡ false)
-      slot_none = slot_full (place same node (items cells n)) n (length cells) s.slot_is
+      slot_none = slot_refused (place same node (items cells n)) why n (length cells) s.slot_is
 
       past : ltb (length (items cells n)) 64 ≡ false
       past = le-ltb _ 64 (omega (arith, size, no_room n (length cells) few slot_none.1))
@@ -107,6 +108,3 @@ module _ (codes atoms : ℕ) (rules : List ℕ) (cells : List (Cell Node)) (n : 
         sym (cond-false _ _ _ past) ∙ known_answer None slot_none.0,
         ap holding (s.items_are ∙ sym (cond-false _ _ _ past)) ∙ known_leaves None slot_none.0,
       )
-
-    pub never_broken : (after : List (Cell Node)) → Settled same node_turn cells n node Broken after → ⊥
-    never_broken after s = slot_broken (place same node (items cells n)) n (length cells) s.slot_is

@@ -1,5 +1,5 @@
 -- What a draft or a book holds, and what each call answers and leaves.
-use Rattle.std.specs.Prelude.{◌≡◌, ℕ, ◌<◌, ◌≤◌, Bool, true, false, cond, not, ◌&&◌, List, [], ◌∷◌, ◌++◌, length, take, Some, None, Ok, Err, Option, Result, ◌==◌, ◌≢◌, nat_le, nat_lt, slice_index, slice_index_or}
+use Rattle.std.specs.Prelude.{◌≡◌, ℕ, ◌<◌, ◌≤◌, Bool, true, false, cond, not, ◌&&◌, List, [], ◌∷◌, ◌++◌, length, Some, None, Ok, Err, Option, Result, ◌==◌, ◌≢◌, nat_le, nat_lt, slice_index, slice_index_or}
 use Rattle.intern.specs.Index.{items, place}
 use Rattle.refusal.specs.declared.Refusal.{Refusal}
 use Rattle.refusal.specs.declared.Refusal.TheVariants.{CountsOutOfRange, Unknown, TooManyFormulas}
@@ -18,7 +18,7 @@ pub record Contents : Type 0 where
 
 -- what a draft holds
 abbrev pub draft_contents : Draft → Contents
-draft_contents d = record { codes = d.codes; atoms = d.atoms; nodes = items d.cells d.len; rules = take d.named d.rules }
+draft_contents d = record { codes = d.codes; atoms = d.atoms; nodes = items d.cells d.len; rules = d.rules.items }
 
 -- what a book holds
 abbrev pub book_contents : Book → Contents

@@ -6,6 +6,7 @@ ghost use Rattle.ltlf.specs.Nodes.{known};
 use super::book::Book;
 use super::draft::Draft;
 use super::node::Node;
+use arrayvec::ArrayVec;
 use intern::{Cell, Slot, find_or_add};
 use refusal::Refusal;
 
@@ -19,8 +20,7 @@ impl Draft {
             atoms: 0,
             cells: [Cell::new(Node::True); 64],
             len: 0,
-            rules: [0; 64],
-            named: 0,
+            rules: ArrayVec::new(),
         }
     }
 
@@ -35,7 +35,7 @@ impl Draft {
             self.codes = codes;
             self.atoms = atoms;
             self.len = 0;
-            self.named = 0;
+            self.rules.clear();
             Ok(())
         } else {
             Err(Refusal::CountsOutOfRange)
@@ -47,16 +47,12 @@ impl Draft {
         ensures { result ≡ known self.now.atoms self.now.len node }
     {
         match node {
-            Node::True => true,
-            Node::False => true,
-            Node::Atom(a) => a < self.atoms,
-            Node::NotAtom(a) => a < self.atoms,
-            Node::And(f, g) => f < self.len && g < self.len,
-            Node::Or(f, g) => f < self.len && g < self.len,
-            Node::Tomorrow(f) => f < self.len,
-            Node::WeakTomorrow(f) => f < self.len,
-            Node::Until(f, g) => f < self.len && g < self.len,
-            Node::Release(f, g) => f < self.len && g < self.len,
+            Node::True | Node::False => true,
+            Node::Atom(a) | Node::NotAtom(a) => a < self.atoms,
+            Node::Tomorrow(f) | Node::WeakTomorrow(f) => f < self.len,
+            Node::And(f, g) | Node::Or(f, g) | Node::Until(f, g) | Node::Release(f, g) => {
+                f < self.len && g < self.len
+            }
         }
     }
 
@@ -71,13 +67,12 @@ impl Draft {
             return Err(Refusal::Unknown);
         }
         match find_or_add(&mut self.cells, self.len as usize, node) {
-            Slot::Found(place) => Ok(place as u8),
-            Slot::Added(place) => {
+            Ok(Slot::Found(place)) => Ok(place as u8),
+            Ok(Slot::Added(place)) => {
                 self.len += 1;
                 Ok(place as u8)
             }
-            Slot::Full => Err(Refusal::TooManyFormulas),
-            Slot::Broken => unreachable(),
+            Err(_) => Err(Refusal::TooManyFormulas),
         }
     }
 
@@ -85,12 +80,7 @@ impl Draft {
     fn is_rule(&self, formula: u8) -> bool
         ensures { result ≡ among formula (draft_contents self.now).rules }
     {
-        for i in 0..self.named {
-            if self.rules[i as usize] == formula {
-                return true;
-            }
-        }
-        false
+        self.rules.contains(&formula)
     }
 
     /// Names a formula a rule; naming it again changes nothing.
@@ -106,8 +96,7 @@ impl Draft {
         if self.is_rule(formula) {
             return Ok(());
         }
-        self.rules[self.named as usize] = formula;
-        self.named += 1;
+        self.rules.push(formula);
         Ok(())
     }
 

@@ -1,5 +1,5 @@
 // The calls of a book.
-ghost use Rattle.std.specs.Prelude.{◌≡◌, length};
+ghost use Rattle.std.specs.Prelude.{◌≡◌, ◌≤◌, length};
 ghost use Rattle.ltlf.specs.Contents.{book_contents, node_answer, rule_at, BooksAreProper, BooksAreSmall};
 
 use super::book::Book;
@@ -41,18 +41,19 @@ impl Book {
         }
     }
 
+    /// The rules in the order in which they were first named.
+    pub fn rules(&self) -> &[u8]
+        ensures value { result.now ≡ (book_contents self.now).rules }
+        ensures fits { length result.now ≤ 64 }
+    {
+        self.sealed.rules.as_slice()
+    }
+
     /// The number of rules.
     pub fn rule_count(&self) -> u8
         ensures { result ≡ length (book_contents self.now).rules }
     {
-        self.sealed.named
-    }
-
-    /// The rules in the order in which they were first named.
-    pub fn rules(&self) -> &[u8]
-        ensures { result.now ≡ (book_contents self.now).rules }
-    {
-        &self.sealed.rules[..self.sealed.named as usize]
+        self.rules().len() as u8
     }
 
     /// The rule at a place of the order in which rules were first named.
@@ -61,24 +62,19 @@ impl Book {
     pub fn rule(&self, place: u8) -> Result<u8, Refusal>
         ensures { result ≡ rule_at (book_contents self.now) place }
     {
-        if place < self.sealed.named {
-            Ok(self.sealed.rules[place as usize])
-        } else {
-            Err(Refusal::Unknown)
-        }
+        self.rules()
+            .get(place as usize)
+            .copied()
+            .ok_or(Refusal::Unknown)
     }
 }
 
 /// Every book is proper.
-pub fn books_are_proper() -> u8
+pub fn books_are_proper()
     ensures { BooksAreProper }
-{
-    0
-}
+{}
 
 /// Every book has at most 4,096 codes and 32 atoms.
-pub fn books_are_small() -> u8
+pub fn books_are_small()
     ensures { BooksAreSmall }
-{
-    0
-}
+{}

@@ -1,7 +1,7 @@
 ghost use Rattle.std.specs.Prelude.{◌≡◌, slice_index};
 ghost use Rattle.names.specs.Texts.{text_of, same_text, name_turn};
-ghost use Rattle.names.specs.Same.{same_itself, same_back, same_through, same_turns};
-ghost use Rattle.std.proofs.Common.{rules, arith};
+ghost use Rattle.names.specs.Same.{derived_is_same, same_itself, same_back, same_through, same_turns};
+ghost use Rattle.std.proofs.Common.{◌∙◌};
 
 use crate::Name;
 use intern::Keyed;
@@ -11,11 +11,7 @@ impl Name {
     fn letter_at(&self, place: usize) -> u8
         ensures { result ≡ slice_index (text_of self.now) place }
     {
-        if place < self.len as usize {
-            self.letters[place]
-        } else {
-            0
-        }
+        self.text().get(place).copied().unwrap_or(0)
     }
 }
 
@@ -24,7 +20,7 @@ impl Keyed for Name {
 
     ghost turns = { name_turn };
 
-    ghost decides = { first_of (Prim.search rules, Prim.grind (arith, Self.row.coded.inj)) };
+    ghost decides = { λ x y b e. e ∙ derived_is_same x y };
 
     ghost reflexive = { same_itself };
 

@@ -1,29 +1,14 @@
 ghost use Rattle.std.specs.Prelude.{◌≡◌};
-ghost use Rattle.std.specs.Str.{bytes_eq};
-ghost use Rattle.names.specs.Letters.{is_letter, all_letters, is_name};
+ghost use Rattle.names.specs.Letters.{all_letters, is_name};
 ghost use Rattle.names.specs.Texts.{text_of, seen, named};
-ghost use Rattle.std.specs.Cmp.Rules.{comparing};
-ghost use Rattle.std.proofs.Common.{rules, arith};
 
 use crate::Name;
-
-// Whether a byte is a letter a to z.
-fn letter(byte: u8) -> bool
-    ensures { result ≡ is_letter byte }
-{
-    b'a' <= byte && byte <= b'z'
-}
 
 // Whether every byte is a letter.
 fn lettered(text: &[u8]) -> bool
     ensures { result ≡ all_letters text.now }
 {
-    for byte in text {
-        if !letter(*byte) {
-            return false;
-        }
-    }
-    true
+    text.iter().all(|byte| byte.is_ascii_lowercase())
 }
 
 // Whether a text is a name.
@@ -35,6 +20,7 @@ fn name_like(text: &[u8]) -> bool
 
 impl Name {
     /// The name with this text; `None` where the text is not 1 to 8 letters a to z.
+    // No `TryFrom`: there is one way to fail, and `None` says it without an error type.
     pub fn new(text: &[u8]) -> Option<Name>
         ensures { seen result ≡ named text.now }
     {
@@ -54,15 +40,5 @@ impl Name {
         ensures { result.now ≡ text_of self.now }
     {
         &self.letters[..self.len as usize]
-    }
-}
-
-impl PartialEq for Name {
-    ghost eq = { λ x y. bytes_eq (text_of x) (text_of y) };
-
-    ghost laws = { first_of (Prim.search (comparing, rules), Prim.grind (arith, Self.row.coded.inj)) };
-
-    fn eq(&self, other: &Name) -> bool {
-        self.text() == other.text()
     }
 }

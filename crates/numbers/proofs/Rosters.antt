@@ -1,14 +1,15 @@
 -- Names that are found and added.
-use Rattle.std.proofs.Common.{◌≡◌, ℕ, ◌+◌, ◌^◌, ◌<◌, ◌≤◌, true, false, not, ◌&&◌, ltb, List, [], ◌∷◌, map, length, is_some, Some, None, Option, sym, refl, ap, ◌∙◌, subst, ⊎_elim, arith}
+use Rattle.std.proofs.Common.{◌≡◌, ℕ, ◌+◌, ◌^◌, ◌<◌, ◌≤◌, true, false, not, ◌&&◌, ltb, List, [], ◌∷◌, map, length, is_some, Some, None, Ok, Err, Option, sym, refl, ap, ◌∙◌, subst, ⊎_elim, arith}
 use Rattle.std.proofs.lemmas.List.{length-map, map_push}
 use Rattle.std.proofs.lemmas.Bool.{cond-true, cond-false, and_from, and_parts, and_left, and_right, lt-ltb, le-ltb, ltb-true, both_ways, cases_lt}
 use Rattle.std.specs.Str.{bytes_eq}
 use Rattle.intern.proofs.Growth.{indexed_one}
 use Rattle.intern.proofs.Indexes.{false_from}
 use Rattle.intern.proofs.Places.{length_items, place_map}
-use Rattle.intern.proofs.Slots.{slot_found, slot_added, slot_full}
+use Rattle.intern.proofs.Slots.{slot_found, slot_added, slot_refused}
 use Rattle.intern.specs.declared.cell.Cell.{Cell}
-use Rattle.intern.specs.declared.Slot.TheVariants.{Found, Added, Full}
+use Rattle.intern.specs.declared.EntryError.{EntryError}
+use Rattle.intern.specs.declared.Slot.TheVariants.{Found, Added}
 use Rattle.intern.specs.Entry.{room}
 use Rattle.intern.specs.Index.{Indexed, items, place, further}
 use Rattle.intern.specs.Links.{leaf}
@@ -61,17 +62,17 @@ module _ (r : Roster) where
       is ∙ place_is name ∙ ap (λ (x : List ℕ). place bytes_eq x (texts r)) (named_some text (text_of name) made).1
 
   module _ (name : Name) (after : List (Cell Name)) where
-    pub taken : (k : ℕ) → Settled same_text name_turn r.cells r.count name (Found k) after → None ≡ texts_more r (text_of name)
+    pub taken : (k : ℕ) → Settled same_text name_turn r.cells r.count name (Ok (Found k)) after → None ≡ texts_more r (text_of name)
     taken k s =
         let there : place bytes_eq (text_of name) (texts r) ≡ Some k = sym (place_is name) ∙ slot_found _ k r.count _ s.slot_is in
         sym (cond-false _ _ _ (and_left (not (is_some (place bytes_eq (text_of name) (texts r)))) _ (ap (λ (o : Option ℕ). not (is_some o)) there)))
 
-    pub crowded : Settled same_text name_turn r.cells r.count name Full after → None ≡ texts_more r (text_of name)
-    crowded s =
-        let no_room : room r.count 8 ≡ false = ap (room r.count) (sym r.whole) ∙ (slot_full _ r.count _ s.slot_is).1 in
+    pub crowded : (why : EntryError) → Settled same_text name_turn r.cells r.count name (Err why) after → None ≡ texts_more r (text_of name)
+    crowded why s =
+        let no_room : room r.count 8 ≡ false = ap (room r.count) (sym r.whole) ∙ (slot_refused _ why r.count _ s.slot_is).1 in
         sym (cond-false _ _ _ (and_right (not (is_some (place bytes_eq (text_of name) (texts r)))) _ (le-ltb (length (texts r)) 8 (omega (arith, full_at r.count no_room, texts_length)))))
 
-    pub entered : (k : ℕ) → Settled same_text name_turn r.cells r.count name (Added k) after
+    pub entered : (k : ℕ) → Settled same_text name_turn r.cells r.count name (Ok (Added k)) after
         → Some (map text_of (items after (r.count + 1))) ≡ texts_more r (text_of name)
     entered k s =
         let p = slot_added _ k r.count _ s.slot_is in

@@ -49,14 +49,12 @@ impl Roster {
         ensures { texts_seen result ≡ texts_more self (text_of name) }
     {
         let mut cells = self.cells;
-        match find_or_add(&mut cells, self.count as usize, name) {
+        match find_or_add(&mut cells, self.count as usize, name).ok()? {
             Slot::Found(_) => None,
             Slot::Added(_) => Some(Roster {
                 cells,
                 count: self.count + 1,
             }),
-            Slot::Full => None,
-            Slot::Broken => None,
         }
     }
 }

@@ -1,8 +1,9 @@
 -- A row found among the filled cells, or entered behind them.
-use Rattle.std.proofs.Common.{◌≡◌, ℕ, zero, suc, ◌+◌, ◌-◌, ◌^◌, ◌<◌, ◌≤◌, Bool, true, ltb, List, [], ◌∷◌, length, get_or, drop, Some, None, Option, sym, refl, ap, ◌∙◌, subst, inl, inr, arith}
+use Rattle.std.proofs.Common.{◌≡◌, ℕ, zero, suc, ◌+◌, ◌-◌, ◌^◌, ◌<◌, ◌≤◌, Bool, true, ltb, List, [], ◌∷◌, length, get_or, drop, Some, None, Ok, Err, Option, Result, sym, refl, ap, ◌∙◌, subst, inl, inr, arith}
 use Rattle.std.proofs.lemmas.List.{get_or_default, get_or_append_left, get_or-append_right, get_or-drop}
 use Rattle.std.proofs.lemmas.Bool.{cond-true, cond-false, cases_Bool, and_cases, ltb-false}
 use Rattle.intern.specs.declared.cell.Cell.{Cell}
+use Rattle.intern.specs.declared.EntryError.{EntryError}
 use Rattle.intern.specs.declared.Slot.{Slot}
 use Rattle.intern.specs.declared.Slot.TheVariants as slot
 use Rattle.intern.specs.Index.{items, place, further}
@@ -11,7 +12,7 @@ use Rattle.intern.specs.Settled.{Settled}
 use Rattle.intern.proofs.Index.{to_index}
 use Rattle.intern.proofs.Indexes.{items_apart}
 use Rattle.intern.proofs.Places.{length_items, items_at}
-use Rattle.intern.proofs.Slots.{slot_found, slot_full, place_below}
+use Rattle.intern.proofs.Slots.{slot_found, slot_refused, place_below}
 use Rattle.search.specs.declared.row.Row.{Row}
 use Rattle.search.specs.Rows.{position, same_position, row_turn}
 use Rattle.search.specs.Layers.{held, Apart, IndexedRows, Spread}
@@ -94,10 +95,10 @@ module _ (xs ys : List (Cell Row)) (n : ℕ) (r : Row) (few : length xs ≤ 2 ^ 
       place_missing same_position r r (items xs n) none k (omega (arith, length_items xs n len))
       (is_same (get_or (items xs n) k r) r (ap position (row_read xs n len k d r lt) ∙ same))
 
-  abbrev Done : Slot → Type 0
+  abbrev Done : Result Slot EntryError → Type 0
   Done s = Settled same_position row_turn xs n r s ys
 
-  pub enter_found : (k : ℕ) → Done (slot.Found k) → Spread (λ e. e.from ≡ r.from) (λ p. p ≡ position r) xs ys n (Some n)
+  pub enter_found : (k : ℕ) → Done (Ok (slot.Found k)) → Spread (λ e. e.from ≡ r.from) (λ p. p ≡ position r) xs ys n (Some n)
   enter_found k s =
       let len = rows_within xs n before in
       let at = slot_found (place same_position r (items xs n)) k n (length xs) s.slot_is in
@@ -116,10 +117,10 @@ module _ (xs ys : List (Cell Row)) (n : ℕ) (r : Row) (few : length xs ≤ 2 ^ 
         λ p e. (k, omega arith, lt, λ d. ap position (kept k d lt ∙ sym (row_read xs n len k d r lt)) ∙ same ∙ sym e),
       )
 
-  pub enter_full : Done slot.Full → Spread (λ e. e.from ≡ r.from) (λ p. p ≡ position r) xs ys n None
-  enter_full s =
+  pub enter_full : (why : EntryError) → Done (Err why) → Spread (λ e. e.from ≡ r.from) (λ p. p ≡ position r) xs ys n None
+  enter_full why s =
       let len = rows_within xs n before in
-      let at = slot_full (place same_position r (items xs n)) n (length xs) s.slot_is in
+      let at = slot_refused (place same_position r (items xs n)) why n (length xs) s.slot_is in
       let size = s.same_length in
       let over : n ≡ length xs = elim (and_cases (ltb n (length xs)) (ltb n (2 ^ 32)) at.1) [
         | inl a ↦ (let h = ltb-false n (length xs) a in omega arith)
@@ -144,7 +145,7 @@ module _ (xs ys : List (Cell Row)) (n : ℕ) (r : Row) (few : length xs ≤ 2 ^ 
         ),
       )
 
-  pub enter_added : (k : ℕ) → Done (slot.Added k) → Spread (λ e. e.from ≡ r.from) (λ p. p ≡ position r) xs ys n (Some (n + 1))
+  pub enter_added : (k : ℕ) → Done (Ok (slot.Added k)) → Spread (λ e. e.from ≡ r.from) (λ p. p ≡ position r) xs ys n (Some (n + 1))
   enter_added k s =
       let len = rows_within xs n before in
       let within = rows_within ys (n + 1) s.indexed in

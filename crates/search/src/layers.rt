@@ -30,11 +30,9 @@ pub(crate) fn enter(rows: &mut [Cell<Row>], filled: usize, row: Row) -> Option<u
     requires { (length rows.old ≤ 2 ^ 32) × (IndexedRows rows.old filled) }
     ensures { Spread (λ e. e.from ≡ row.from) (λ p. p ≡ position row) rows.old rows.new filled result }
 {
-    match find_or_add(rows, filled, row) {
+    match find_or_add(rows, filled, row).ok()? {
         Slot::Found(_) => Some(filled),
         Slot::Added(_) => Some(filled + 1),
-        Slot::Full => None,
-        Slot::Broken => None,
     }
 }
 

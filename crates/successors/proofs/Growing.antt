@@ -1,17 +1,18 @@
 -- Cells to which labels are added.
-use Rattle.std.proofs.Common.{◌≡◌, ℕ, suc, ◌+◌, ◌-◌, ◌^◌, ◌<◌, ◌≤◌, min, true, false, ltb, ◌⊎◌, List, [], ◌∷◌, ◌++◌, map, length, get_or, drop, Some, None, Option, sym, refl, ap, ◌∙◌, subst, inl, inr, arith}
+use Rattle.std.proofs.Common.{◌≡◌, ℕ, suc, ◌+◌, ◌-◌, ◌^◌, ◌<◌, ◌≤◌, min, true, false, ltb, ◌⊎◌, List, [], ◌∷◌, ◌++◌, map, length, get_or, drop, Some, None, Ok, Err, Option, sym, refl, ap, ◌∙◌, subst, inl, inr, arith}
 use mathlib.Core.Path.{subst⁻¹}
 use Rattle.std.proofs.lemmas.List.{drop-drop, length-map, get_or-map}
 use Rattle.std.proofs.lemmas.Bool.{cases_Bool, cond-true, cond-false, eqb-true, eq-eqb, and_parts, and_cases, ltb-true, ltb-false}
 use Rattle.intern.specs.declared.cell.Cell.{Cell}
-use Rattle.intern.specs.declared.Slot.TheVariants.{Found, Added, Full, Broken}
+use Rattle.intern.specs.declared.EntryError.{EntryError}
+use Rattle.intern.specs.declared.Slot.TheVariants.{Found, Added}
 use Rattle.intern.specs.Entry.{room}
 use Rattle.intern.specs.Index.{items, place, further}
 use Rattle.intern.specs.Settled.{Settled}
 use Rattle.intern.proofs.Index.{to_index, indexed_none}
 use Rattle.intern.proofs.Indexes.{items_apart}
 use Rattle.intern.proofs.Places.{length_items}
-use Rattle.intern.proofs.Slots.{slot_found, slot_added, slot_full, slot_broken}
+use Rattle.intern.proofs.Slots.{slot_found, slot_added, slot_refused}
 use Rattle.tableau.specs.Labels.{Label}
 use Rattle.tableau.specs.Positions.{In, Distinct}
 use Rattle.tableau.proofs.Tests.{in_append}
@@ -124,7 +125,7 @@ module _ (cells after : Cells) (n q : ℕ) (t : Taken cells n) where
   abbrev item : NextLabel
   item = record { formulas = q }
 
-  pub enter_found : (k : ℕ) → Settled same_label label_turn cells n item (Found k) after → Filled (λ p. p ≡ q) cells after n (Some n)
+  pub enter_found : (k : ℕ) → Settled same_label label_turn cells n item (Ok (Found k)) after → Filled (λ p. p ≡ q) cells after n (Some n)
   enter_found k s =
       let same : labels after n ≡ labels cells n = ap (λ xs. map (λ (x : NextLabel). x.formulas) xs) s.items_are in (
         record {
@@ -138,7 +139,7 @@ module _ (cells after : Cells) (n q : ℕ) (t : Taken cells n) where
         λ p e. subst⁻¹ (In p) same (subst⁻¹ (λ (x : ℕ). In x (labels cells n)) e (place_in item (items cells n) k (slot_found _ k n (length cells) s.slot_is))),
       )
 
-  pub enter_added : (k : ℕ) → Settled same_label label_turn cells n item (Added k) after → Filled (λ p. p ≡ q) cells after n (Some (n + 1))
+  pub enter_added : (k : ℕ) → Settled same_label label_turn cells n item (Ok (Added k)) after → Filled (λ p. p ≡ q) cells after n (Some (n + 1))
   enter_added k s =
       let a = slot_added _ k n (length cells) s.slot_is in
       let more : labels after (n + 1) ≡ labels cells n ++ q ∷ [] = ap (λ xs. map (λ (x : NextLabel). x.formulas) xs) s.items_are ∙ map_append (items cells n) (item ∷ []) in
@@ -159,9 +160,9 @@ module _ (cells after : Cells) (n q : ℕ) (t : Taken cells n) where
       only p (inl e) = e
       only p (inr z) = absurd z
 
-  pub enter_full : Settled same_label label_turn cells n item Full after → Filled (λ p. p ≡ q) cells after n None
-  enter_full s =
-      let a = slot_full _ n (length cells) s.slot_is in
+  pub enter_full : (why : EntryError) → Settled same_label label_turn cells n item (Err why) after → Filled (λ p. p ≡ q) cells after n None
+  enter_full why s =
+      let a = slot_refused _ why n (length cells) s.slot_is in
       let e : n ≡ capacity cells = no_room cells n t.room a.1 in
       let same : labels after n ≡ labels cells n = ap (λ xs. map (λ (x : NextLabel). x.formulas) xs) s.items_are in (
         subst (Grown (λ p. p ≡ q) cells after n) e (record {
@@ -174,9 +175,6 @@ module _ (cells after : Cells) (n q : ℕ) (t : Taken cells n) where
         }),
         (q, refl, λ i. place_out item (items cells n) a.0 (subst (In q) same (subst⁻¹ (λ (z : ℕ). In q (labels after z)) e i))),
       )
-
-  pub enter_broken : Settled same_label label_turn cells n item Broken after → ⊥
-  enter_broken s = slot_broken _ n (length cells) s.slot_is
 
 pub taken_none : (cells : Cells) → Taken cells 0
 taken_none cells = record { room = omega arith; indexed = indexed_none same_label label_turn cells }

@@ -12,10 +12,8 @@ pub(crate) fn enter(cells: &mut [Cell<NextLabel>], filled: usize, label: u64) ->
     requires { Taken cells.old filled }
     ensures { Filled (λ q. q ≡ label) cells.old cells.new filled result }
 {
-    match find_or_add(cells, filled, NextLabel { formulas: label }) {
+    match find_or_add(cells, filled, NextLabel { formulas: label }).ok()? {
         Slot::Found(_) => Some(filled),
         Slot::Added(_) => Some(filled + 1),
-        Slot::Full => None,
-        Slot::Broken => unreachable(),
     }
 }

@@ -1,34 +1,29 @@
-use Rattle.std.proofs.Common.{ℕ, ◌<◌, cond, ltb, List, length, take, Ok, Err, sym, ap, ◌∙◌, arith}
-use Rattle.std.proofs.lemmas.List.{length-set}
+use Rattle.std.proofs.Common.{◌≡◌, ℕ, ◌<◌, cond, ltb, List, length, get_or, Ok, Err, sym, ap, ◌∙◌, subst, arith}
 use Rattle.refusal.specs.declared.Refusal.TheVariants.{Unknown}
 use Rattle.intern.specs.Index.{items}
 use Rattle.ltlf.proofs.Rules.{room, stood_more, apart_more, rules_more, rules_unput, rules_again}
 use Rattle.ltlf.proofs.Fronts.{was_put, not_put}
 use Rattle.ltlf.proofs.draft.Draft.name_rule.Goals as goal
 
-pub bounds-self-self : goal.bounds-self-self
-bounds-self-self c =
+pub push-requires : goal.push-requires
+push-requires c =
     let d = c.args.self.now in
-    omega (arith, room d.rules d.named c.args.formula d.len (omega arith) d.stood d.apart (omega arith) c.if-is_rule.ensures)
+    omega (arith, room d.rules.items c.args.formula d.len d.stood d.apart (omega arith) c.if-is_rule.ensures)
 
 pub invariant_of-self : goal.invariant_of-self
 invariant_of-self c =
     let d = c.args.self.now in
     let f = c.args.formula in
-    let fresh = c.if-is_rule.ensures in
-    let some = room d.rules d.named f d.len (omega arith) d.stood d.apart (omega arith) fresh in
-    let within : d.named < length d.rules = omega arith in
-    let stood = stood_more d.rules d.named f d.len (omega arith) d.stood d.apart (omega arith) fresh within in
-    let apart = apart_more d.rules d.named f d.len (omega arith) d.stood d.apart (omega arith) fresh within in
+    let grown = c.push.ensures.items in
     record {
       room = d.room;
       whole = d.whole;
       indexed = d.indexed;
       before = d.before;
-      few = omega arith;
-      spaced = length-set d.rules d.named f ∙ d.spaced;
-      stood = stood;
-      apart = apart;
+      stood = subst (λ (rs : List ℕ). (i : ℕ) → i < length rs → get_or rs i 0 < d.len) (sym grown)
+          (stood_more d.rules.items f d.len d.stood d.apart (omega arith) c.if-is_rule.ensures);
+      apart = subst (λ (rs : List ℕ). (i j : ℕ) → i < j → j < length rs → get_or rs i 0 ≡ get_or rs j 0 → ⊥) (sym grown)
+          (apart_more d.rules.items f d.len d.stood d.apart (omega arith) c.if-is_rule.ensures);
       coded = d.coded;
       told = d.told;
     }
@@ -41,7 +36,7 @@ returns-then-formula-self c =
     record {
       answer = sym (ap (λ b. cond b (Ok tt) (Err Unknown)) put);
       after = ap (λ (rs : List ℕ). record { codes = d.codes; atoms = d.atoms; nodes = items d.cells d.len; rules = rs })
-          (rules_unput (ltb f (length (items d.cells d.len))) (take d.named d.rules) f put);
+          (rules_unput (ltb f (length (items d.cells d.len))) d.rules.items f put);
     }
 
 pub returns-then-is_rule : goal.returns-then-is_rule
@@ -52,19 +47,16 @@ returns-then-is_rule c =
     record {
       answer = sym (ap (λ b. cond b (Ok tt) (Err Unknown)) put);
       after = ap (λ (rs : List ℕ). record { codes = d.codes; atoms = d.atoms; nodes = items d.cells d.len; rules = rs })
-          (rules_again (ltb f (length (items d.cells d.len))) (take d.named d.rules) f c.if-is_rule.ensures);
+          (rules_again (ltb f (length (items d.cells d.len))) d.rules.items f c.if-is_rule.ensures);
     }
 
 pub returns : goal.returns
 returns c =
     let d = c.args.self.now in
     let f = c.args.formula in
-    let fresh = c.if-is_rule.ensures in
-    let some = room d.rules d.named f d.len (omega arith) d.stood d.apart (omega arith) fresh in
-    let within : d.named < length d.rules = omega arith in
     let put = was_put d.cells d.len f (omega arith) (omega arith) in
     record {
       answer = sym (ap (λ b. cond b (Ok tt) (Err Unknown)) put);
       after = ap (λ (rs : List ℕ). record { codes = d.codes; atoms = d.atoms; nodes = items d.cells d.len; rules = rs })
-          (rules_more d.rules d.named f d.len (omega arith) d.stood d.apart (omega arith) fresh within _ put);
+          (c.push.ensures.items ∙ rules_more d.rules.items f d.len d.stood d.apart (omega arith) c.if-is_rule.ensures _ put);
     }

@@ -1,4 +1,4 @@
-use Rattle.std.proofs.Common.{refl, arith}
+use Rattle.std.proofs.Common.{length, refl, ap, arith}
 use Rattle.intern.specs.Index.{indexed_from}
 use Rattle.ltlf.proofs.draft.Draft.new.Goals as goal
 
@@ -10,10 +10,8 @@ invariant_of-result c =
       whole = refl;
       indexed = refl;
       before = λ k h. absurd (omega arith);
-      few = omega arith;
-      spaced = refl;
-      stood = λ i h. absurd (omega arith);
-      apart = λ i j lt h e. absurd (omega arith);
+      stood = λ i h. absurd (omega (arith, ap length c.new-2.ensures));
+      apart = λ i j lt h e. absurd (omega (arith, ap length c.new-2.ensures));
       coded = omega arith;
       told = omega arith;
     }

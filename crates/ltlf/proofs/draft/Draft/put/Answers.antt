@@ -11,40 +11,38 @@ returns-then-not-knows c =
 pub overflow_cast-result : goal.overflow_cast-result
 overflow_cast-result c =
     let d = c.args.self.now in
-    omega (arith, found_below d.codes d.atoms d.rules d.cells d.len c.args.node d.whole d.room c.if-not-knows.ensures _ _ (c.in-Found.ensures.settled d.indexed))
+    omega (arith, found_below d.codes d.atoms d.rules.items d.cells d.len c.args.node d.whole d.room c.if-not-knows.ensures _ _ (rw c.in-Ok-Found.field-0-is at (c.in-Ok-Found.ensures.settled d.indexed)))
 
-pub invariant_of-self-in-Added : goal.invariant_of-self-in-Added
-invariant_of-self-in-Added c =
+pub invariant_of-self-in-Ok-Added : goal.invariant_of-self-in-Ok-Added
+invariant_of-self-in-Ok-Added c =
     let d = c.args.self.now in
-    let s = c.in-Added.ensures.settled d.indexed in
-    let below = added_below d.codes d.atoms d.rules d.cells d.len c.args.node d.whole d.room c.if-not-knows.ensures _ _ s in
+    let s = rw c.in-Ok-Added.field-0-is at (c.in-Ok-Added.ensures.settled d.indexed) in
+    let below = added_below d.codes d.atoms d.rules.items d.cells d.len c.args.node d.whole d.room c.if-not-knows.ensures _ _ s in
     record {
       room = omega (arith, below.1);
       whole = s.same_length ∙ d.whole;
       indexed = s.indexed;
-      before = before_more d.codes d.atoms d.rules d.cells d.len c.args.node d.whole d.room c.if-not-knows.ensures _ _ s d.before;
-      few = d.few;
-      spaced = d.spaced;
+      before = before_more d.codes d.atoms d.rules.items d.cells d.len c.args.node d.whole d.room c.if-not-knows.ensures _ _ s d.before;
       stood = λ i h. omega (arith, d.stood i h);
       apart = d.apart;
       coded = d.coded;
       told = d.told;
     }
 
-pub returns-in-Found : goal.returns-in-Found
-returns-in-Found c =
+pub returns-in-Ok-Found : goal.returns-in-Ok-Found
+returns-in-Ok-Found c =
     let d = c.args.self.now in
-    let p = put_found d.codes d.atoms _ d.cells d.len c.args.node d.whole d.room c.if-not-knows.ensures _ _ (c.in-Found.ensures.settled d.indexed) in
+    let p = put_found d.codes d.atoms _ d.cells d.len c.args.node d.whole d.room c.if-not-knows.ensures _ _ (rw c.in-Ok-Found.field-0-is at (c.in-Ok-Found.ensures.settled d.indexed)) in
     record { answer = p.0; after = p.1 }
 
-pub returns-in-Added : goal.returns-in-Added
-returns-in-Added c =
+pub returns-in-Ok-Added : goal.returns-in-Ok-Added
+returns-in-Ok-Added c =
     let d = c.args.self.now in
-    let p = put_added d.codes d.atoms _ d.cells d.len c.args.node d.whole d.room c.if-not-knows.ensures _ _ (c.in-Added.ensures.settled d.indexed) in
+    let p = put_added d.codes d.atoms _ d.cells d.len c.args.node d.whole d.room c.if-not-knows.ensures _ _ (rw c.in-Ok-Added.field-0-is at (c.in-Ok-Added.ensures.settled d.indexed)) in
     record { answer = p.0; after = p.1 }
 
-pub returns-in-Full : goal.returns-in-Full
-returns-in-Full c =
+pub returns-in-Err : goal.returns-in-Err
+returns-in-Err c =
     let d = c.args.self.now in
-    let p = put_full d.codes d.atoms _ d.cells d.len c.args.node d.whole d.room c.if-not-knows.ensures _ (c.in-Full.ensures.settled d.indexed) in
+    let p = put_full d.codes d.atoms _ d.cells d.len c.args.node d.whole d.room c.if-not-knows.ensures _ _ (c.in-Err.ensures.settled d.indexed) in
     record { answer = p.0; after = p.1 }

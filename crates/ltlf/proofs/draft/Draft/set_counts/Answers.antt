@@ -1,4 +1,4 @@
-use Rattle.std.proofs.Common.{arith}
+use Rattle.std.proofs.Common.{length, ap, arith}
 use Rattle.intern.proofs.Index.{indexed_none}
 use Rattle.ltlf.specs.Nodes.{same, node_turn}
 use Rattle.ltlf.proofs.draft.Draft.set_counts.Goals as goal
@@ -11,10 +11,8 @@ invariant_of-self c =
       whole = d.whole;
       indexed = indexed_none same node_turn d.cells;
       before = λ k h. absurd (omega arith);
-      few = omega arith;
-      spaced = d.spaced;
-      stood = λ i h. absurd (omega arith);
-      apart = λ i j lt h e. absurd (omega arith);
+      stood = λ i h. absurd (omega (arith, ap length c.clear.ensures));
+      apart = λ i j lt h e. absurd (omega (arith, ap length c.clear.ensures));
       coded = omega arith;
       told = omega arith;
     }

@@ -1,6 +1,6 @@
 use Rattle.std.proofs.Common.{[], ◌∷◌, sym, ap, ◌∙◌}
 use Rattle.names.specs.Letters.{all_letters}
-use Rattle.names.proofs.Lettered.{name_parts, front_is, named_is, still_whole}
+use Rattle.names.proofs.Lettered.{name_parts, front_is, named_is, still_whole, blank_past}
 use Rattle.names.proofs.name.Name.new.Goals as goal
 
 pub invariant_of-result : goal.invariant_of-result
@@ -10,6 +10,7 @@ invariant_of-result c =
       whole = still_whole c.args.text.now _ (0 ∷ 0 ∷ 0 ∷ 0 ∷ 0 ∷ 0 ∷ 0 ∷ 0 ∷ []) c.copy_from_slice.ensures.after parts.1;
       some = parts.0;
       few = parts.1;
+      blank = blank_past c.args.text.now _ c.copy_from_slice.ensures.after;
       lettered = ap all_letters (front_is c.args.text.now _ _ c.copy_from_slice.ensures.after) ∙ parts.2;
     }
 
