@@ -1,5 +1,4 @@
 pub mod Turns
 pub mod Values
 pub mod Writes
-pub mod Bytes
 pub mod Parts

@@ -1,5 +1,6 @@
 -- A sheet: which texts are sheets, and what reading one answers and leaves.
-use Rattle.std.specs.Prelude.{ℕ, ◌-◌, Bool, true, cond, ◌&&◌, ◌||◌, List, [], ◌∷◌, length, take, Some, None, Ok, Err, Option, Result, ◌==◌, nat_le, slice_index, slice_range}
+use Rattle.std.specs.Prelude.{ℕ, ◌-◌, Bool, cond, ◌&&◌, ◌||◌, List, length, take, Some, None, Ok, Err, Option, Result, ◌==◌, nat_le, slice_index, slice_range}
+use Rattle.std.specs.List.{list_all}
 use Rattle.refusal.specs.declared.SheetRefusal.{SheetRefusal}
 use Rattle.refusal.specs.declared.SheetRefusal.TheVariants.{Bytes, Trailer, Opening, Rule, Note}
 use Rattle.flags.specs.Model.{FlagsModel}
@@ -22,8 +23,7 @@ sheet_byte b = b == 10 || (nat_le 32 b && nat_le b 126)
 
 -- all bytes are bytes of a sheet
 abbrev pub sheet_bytes : List ℕ → Bool
-sheet_bytes [] = true
-sheet_bytes (b ∷ bs) = sheet_byte b && sheet_bytes bs
+sheet_bytes bs = list_all sheet_byte bs
 
 -- a sheet has 1 to 65,536 such bytes, and the last ends a line
 abbrev pub passes_as_text : List ℕ → Bool

@@ -1,14 +1,14 @@
 // The lines before the rules: the heading, the variables, the atoms.
 ghost use Rattle.std.specs.Prelude.{◌≡◌, ℕ, ◌+◌, [], ◌∷◌, length};
 ghost use Rattle.sheet_text.specs.Lines.{lines_left, placed_read, section};
-ghost use Rattle.sheet_text.specs.Opening.{opened, heading_of, heading_stage, under, variable_line, atom_line, declaration_read, ended_at, whole_opening};
+ghost use Rattle.sheet_text.specs.Opening.{opened, under, variable_line, atom_line, declaration_read, ended_at, whole_opening};
 
 use super::filled::Filled;
 use super::heading::Heading;
 use super::lines::Lines;
 
 /// How far the lines before the rules have come.
-#[derive(Clone, Copy, Drop)]
+#[derive(Clone, Copy, PartialEq, Eq, Drop)]
 pub(crate) enum Stage {
     /// Before the heading.
     Start,
@@ -43,25 +43,14 @@ fn atom<T: Filled>(stage: Stage, theory: &mut T, text: &[u8]) -> Option<Stage>
     Some(Stage::Atoms)
 }
 
-/// The heading that a line is.
-pub(crate) fn heading_of(line: &[u8]) -> Option<Heading>
-    ensures { result ≡ heading_of line.now }
-{
-    match line {
-        [b'f', b'l', b'a', b'g', b's'] => Some(Heading::Flags),
-        [b'n', b'u', b'm', b'b', b'e', b'r', b's'] => Some(Heading::Numbers),
-        _ => None,
-    }
-}
-
 /// Takes the heading of the theory, which stands first.
 fn heading(theory: Heading, found: Option<Heading>, stage: Stage) -> Option<Stage>
     ensures { result ≡ under theory found stage }
 {
-    match (theory, found?, stage) {
-        (Heading::Flags, Heading::Flags, Stage::Start)
-        | (Heading::Numbers, Heading::Numbers, Stage::Start) => Some(Stage::Headed),
-        _ => None,
+    if found == Some(theory) && stage == Stage::Start {
+        Some(Stage::Headed)
+    } else {
+        None
     }
 }
 
@@ -72,7 +61,7 @@ fn declaration<T: Filled>(stage: Stage, theory: &mut T, line: &[u8]) -> Option<S
     match line {
         [b'v', b' ', rest @ ..] => variable(stage, theory, rest),
         [b'a', b' ', rest @ ..] => atom(stage, theory, rest),
-        _ => heading(theory.heading(), heading_of(line), stage),
+        _ => heading(theory.heading(), Heading::of(line), stage),
     }
 }
 

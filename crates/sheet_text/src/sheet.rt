@@ -6,7 +6,6 @@ ghost use Rattle.numbers.specs.Model.{numbers_of};
 ghost use Rattle.sheet_text.specs.Sheets.{sheet_byte, sheet_bytes, passes_as_text, after, settled, sheet_read};
 
 use super::heading::{Heading, Sheet};
-use super::opening::heading_of;
 use super::sections::read_sections;
 use flags::Flags;
 use items::{last_line, split_line, trailer_of};
@@ -25,12 +24,7 @@ fn is_sheet_byte(byte: u8) -> bool
 fn are_sheet_bytes(bytes: &[u8]) -> bool
     ensures { result ≡ sheet_bytes bytes.now }
 {
-    for byte in bytes {
-        if !is_sheet_byte(*byte) {
-            return false;
-        }
-    }
-    true
+    bytes.iter().all(|byte| is_sheet_byte(*byte))
 }
 
 /// Whether a text has the size, the bytes and the last byte of a sheet.
@@ -58,7 +52,7 @@ fn read_text(
     }
     let own = last_line(bytes);
     let trailer = trailer_of(bytes).ok_or(SheetRefusal::Trailer(own))?;
-    let heading = heading_of(split_line(bytes).value).ok_or(SheetRefusal::Opening(0))?;
+    let heading = Heading::of(split_line(bytes).value).ok_or(SheetRefusal::Opening(0))?;
     *flags = Flags::fresh();
     *numbers = Numbers::fresh();
     match heading {
@@ -82,13 +76,11 @@ pub fn read_sheet(
 ) -> Result<Sheet, SheetRefusal>
     ensures { after result (draft_contents draft.new) (flags_of flags.new) (numbers_of numbers.new) visits.new ≡ sheet_read bytes.now visits.old }
 {
-    match read_text(bytes, draft, flags, numbers, visits) {
-        Ok(sheet) => Ok(sheet),
-        Err(refusal) => {
-            *draft = Draft::new();
-            *flags = Flags::fresh();
-            *numbers = Numbers::fresh();
-            Err(refusal)
-        }
+    let answer = read_text(bytes, draft, flags, numbers, visits);
+    if answer.is_err() {
+        *draft = Draft::new();
+        *flags = Flags::fresh();
+        *numbers = Numbers::fresh();
     }
+    answer
 }
