@@ -37,23 +37,24 @@ pub(crate) enum Operator {
     Other,
 }
 
-/// What a byte says at the front of a formula.
-pub(crate) fn operator_of(byte: u8) -> Operator
-    ensures { result ≡ operator_of byte }
-{
-    match byte as char {
-        'T' => Operator::Constant(true),
-        'L' => Operator::Constant(false),
-        '!' => Operator::Not,
-        'X' => Operator::Single(One::Tomorrow),
-        'W' => Operator::Single(One::WeakTomorrow),
-        'F' => Operator::Fixed(true, Two::Until),
-        'G' => Operator::Fixed(false, Two::Release),
-        '&' => Operator::Pair(Two::And),
-        '|' => Operator::Pair(Two::Or),
-        'U' => Operator::Pair(Two::Until),
-        'R' => Operator::Pair(Two::Release),
-        _ => Operator::Other,
+impl From<u8> for Operator {
+    ghost from_gives = { λ byte operator. operator ≡ operator_of byte };
+
+    fn from(byte: u8) -> Operator {
+        match byte as char {
+            'T' => Operator::Constant(true),
+            'L' => Operator::Constant(false),
+            '!' => Operator::Not,
+            'X' => Operator::Single(One::Tomorrow),
+            'W' => Operator::Single(One::WeakTomorrow),
+            'F' => Operator::Fixed(true, Two::Until),
+            'G' => Operator::Fixed(false, Two::Release),
+            '&' => Operator::Pair(Two::And),
+            '|' => Operator::Pair(Two::Or),
+            'U' => Operator::Pair(Two::Until),
+            'R' => Operator::Pair(Two::Release),
+            _ => Operator::Other,
+        }
     }
 }
 
@@ -61,11 +62,10 @@ pub(crate) fn operator_of(byte: u8) -> Operator
 pub(crate) fn constant(value: bool, negated: bool) -> Node
     ensures { result ≡ constant_node value negated }
 {
-    match (value, negated) {
-        (true, false) => Node::True,
-        (true, true) => Node::False,
-        (false, false) => Node::False,
-        (false, true) => Node::True,
+    if value == negated {
+        Node::False
+    } else {
+        Node::True
     }
 }
 

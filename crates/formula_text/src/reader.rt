@@ -5,7 +5,7 @@ ghost use Rattle.formula_text.specs.Grammar.{ReadsWritten, ReadIsWritten, Writte
 ghost use Rattle.formula_text.specs.Trees.{BuiltStands};
 ghost use Rattle.formula_text.specs.Formulas.{outcome, put_read, atom_read, formula_read};
 
-use super::operator::{Operator, atom_node, constant, one_node, operator_of, two_node};
+use super::operator::{Operator, atom_node, constant, one_node, two_node};
 use items::{Read, natural, space};
 use ltlf::{Draft, Node};
 
@@ -35,7 +35,7 @@ fn formula<'a>(draft: &mut Draft, text: &'a [u8], negated: bool, depth: u8) -> O
     let [first, after @ ..] = text else {
         return None;
     };
-    match operator_of(*first) {
+    match Operator::from(*first) {
         Operator::Constant(value) => put_node(draft, constant(value, negated), after),
         Operator::Not => {
             let inner = space(after)?;

@@ -1,10 +1,9 @@
 -- A turn of the loop over the values of a note.
-use Rattle.std.proofs.Common.{◌≡◌, ℕ, zero, suc, ◌+◌, ◌*◌, ◌<◌, ◌≤◌, List, [], ◌∷◌, length, drop, ℤ, Some, None, Option, sym, refl, ap, ◌∙◌, mul_assoc, add-one, arith, w32, SFits, to_z, of_z}
+use Rattle.std.proofs.Common.{◌≡◌, ℕ, zero, suc, ◌+◌, ◌*◌, ◌<◌, ◌≤◌, List, [], ◌∷◌, length, drop, ℤ, Some, None, Option, sym, ap, ◌∙◌, mul_assoc, add-one, arith, w32, SFits, to_z, of_z}
 use Rattle.std.proofs.lemmas.Nat.{mul-le}
 use Rattle.std.proofs.lemmas.Int.{to_z-of_z}
-use Rattle.std.proofs.lemmas.List.{drop_all}
 use Rattle.items.specs.Numbers.{Reading}
-use Rattle.items.specs.Reads.{and_read, whole}
+use Rattle.items.specs.Reads.{and_read}
 use Rattle.numbers.specs.Filling.{bounds_at}
 use Rattle.numbers.specs.Limits.{value_count}
 use Rattle.numbers.specs.Values.{VariableModel, combinations}
@@ -38,13 +37,6 @@ next_combinations (v ∷ vs) zero low high e =
 next_combinations (v ∷ vs) (suc k) low high e = next_combinations vs k low high e
 
 module _ (vs : List VariableModel) (k code : ℕ) (text : List ℕ) (goal : Option ℕ) (so : values_read (drop k vs) code text ≡ goal) (few : (code + 1) * combinations (drop k vs) ≤ 65535) where
-  -- no variable is left
-  pub all_read : length vs ≤ k → whole code text ≡ goal
-  all_read past = ap (λ l. values_read l code text) (sym (drop_all k vs past)) ∙ so
-
-  pub code_fits : code < 65535
-  code_fits = let le = mul-le (code + 1) 1 (code + 1) (combinations (drop k vs)) (omega arith) (some_combination (drop k vs)) in omega arith
-
   module _ (low high : ℤ) (at : Some (low, high) ≡ bounds_at vs k) where
     -- the later variables make codes beside those of this one
     wide : (code + 1) * value_count low high * combinations (drop (suc k) vs) ≤ 65535
@@ -76,11 +68,3 @@ module _ (vs : List VariableModel) (k code : ℕ) (text : List ℕ) (goal : Opti
 -- bounds as they are passed
 pub passed : (vs : List VariableModel) (k : ℕ) (low high : ℤ) → SFits w32 low → SFits w32 high → Some (low, high) ≡ bounds_at vs k → Some (to_z w32 (of_z w32 low), to_z w32 (of_z w32 high)) ≡ bounds_at vs k
 passed vs k low high f g e = (λ i. Some (to_z-of_z w32 low f i, to_z-of_z w32 high g i)) ∙ e
-
-pub nothing_after : (code : ℕ) (rest : List ℕ) → length rest ≡ 0 → Some code ≡ whole code rest
-nothing_after code [] e = refl
-nothing_after code (b ∷ bs) e = absurd (omega arith)
-
-pub something_after : (code : ℕ) (rest : List ℕ) → 0 < length rest → None ≡ whole code rest
-something_after code [] e = absurd (omega arith)
-something_after code (b ∷ bs) e = refl

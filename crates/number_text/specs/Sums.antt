@@ -1,5 +1,5 @@
 -- The sum of an atom.
-use Rattle.std.specs.Prelude.{◌≡◌, ℕ, zero, suc, ◌≤◌, cond, List, [], ◌∷◌, length, take, ℤ, Some, None, Option, ◌==◌}
+use Rattle.std.specs.Prelude.{ℕ, zero, suc, cond, List, [], ◌∷◌, ℤ, Some, None, Option, ◌==◌}
 use Rattle.items.specs.Lines.{behind}
 use Rattle.items.specs.Names.{name_read}
 use Rattle.items.specs.Numbers.{integer_read}

@@ -2,7 +2,7 @@
 ghost use Rattle.std.specs.Prelude.{◌≡◌, ℕ, ◌≤◌, [], ◌∷◌, length};
 ghost use Rattle.items.specs.Reads.{value_and_rest, read_seen};
 ghost use Rattle.numbers.specs.Model.{numbers_of};
-ghost use Rattle.number_text.specs.Sums.{mark_read, term_read, terms_seen, terms_read, less_read, comparison_read, sum_seen, sum_read};
+ghost use Rattle.number_text.specs.Sums.{mark_read, term_read, terms_seen, terms_read, comparison_read, sum_seen, sum_read};
 
 use super::integers::read_small;
 use super::sum::Sum;
@@ -14,20 +14,12 @@ use numbers::{Comparison, Moment, Numbers, Term};
 fn read_mark(text: &[u8]) -> Read<Moment>
     ensures { value_and_rest result ≡ mark_read text.now }
 {
-    match text {
-        [b'\'', rest @ ..] => Read {
-            value: Moment::Next,
-            rest,
-        },
-        [b'~', rest @ ..] => Read {
-            value: Moment::WeakNext,
-            rest,
-        },
-        _ => Read {
-            value: Moment::Now,
-            rest: text,
-        },
-    }
+    let (value, rest) = match text {
+        [b'\'', rest @ ..] => (Moment::Next, rest),
+        [b'~', rest @ ..] => (Moment::WeakNext, rest),
+        _ => (Moment::Now, text),
+    };
+    Read { value, rest }
 }
 
 /// The term in front, over the variables of a theory.
@@ -69,34 +61,17 @@ fn read_terms<'a>(numbers: &Numbers, text: &'a [u8]) -> Option<Read<'a, ArrayVec
     None
 }
 
-/// The comparison that goes on behind `<`.
-fn after_less(text: &[u8]) -> Read<Comparison>
-    ensures { value_and_rest result ≡ less_read text.now }
-{
-    match text {
-        [b'=', rest @ ..] => Read {
-            value: Comparison::AtMost,
-            rest,
-        },
-        _ => Read {
-            value: Comparison::Less,
-            rest: text,
-        },
-    }
-}
-
 /// The comparison in front.
 fn read_comparison(text: &[u8]) -> Option<Read<Comparison>>
     ensures { read_seen result ≡ comparison_read text.now }
 {
-    match text {
-        [b'<', rest @ ..] => Some(after_less(rest)),
-        [b'=', rest @ ..] => Some(Read {
-            value: Comparison::Equal,
-            rest,
-        }),
-        _ => None,
-    }
+    let (value, rest) = match text {
+        [b'<', b'=', rest @ ..] => (Comparison::AtMost, rest),
+        [b'<', rest @ ..] => (Comparison::Less, rest),
+        [b'=', rest @ ..] => (Comparison::Equal, rest),
+        _ => return None,
+    };
+    Some(Read { value, rest })
 }
 
 /// The sum that is all of a text, over the variables of a theory.

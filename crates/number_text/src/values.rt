@@ -22,18 +22,18 @@ fn count_on(low: i32, high: i32, before: u32, value: i32) -> Option<u32>
     }
 }
 
-/// The code with one more value, which stands behind a space.
-fn read_value(low: i32, high: i32, before: u32, text: &[u8]) -> Option<Read<u32>>
-    requires { (before + 1) * value_count low high ≤ 65535 }
-    ensures read { read_seen result ≡ value_read low high before text.now }
-    ensures below { reads_below low high before result }
+/// The code in front of a space and one more value, with that value.
+fn read_value<'a>(low: i32, high: i32, before: Read<'a, u32>) -> Option<Read<'a, u32>>
+    requires { (before.value + 1) * value_count low high ≤ 65535 }
+    ensures read { read_seen result ≡ value_read low high before.entry.value before.entry.rest.now }
+    ensures below { reads_below low high before.entry.value result }
 {
-    let written = space(text)?;
-    let value = read_small(written, 10_000)?;
-    let code = count_on(low, high, before, value.value)?;
+    let written = space(before.rest)?;
+    let number = read_small(written, 10_000)?;
+    let value = count_on(low, high, before.value, number.value)?;
     Some(Read {
-        value: code,
-        rest: value.rest,
+        value,
+        rest: number.rest,
     })
 }
 
@@ -43,18 +43,14 @@ fn read_value(low: i32, high: i32, before: u32, text: &[u8]) -> Option<Read<u32>
 pub fn read_values(numbers: &Numbers, text: &[u8]) -> Option<u16>
     ensures { result ≡ values_read (numbers_of numbers.now).variables 0 text.now }
 {
-    let mut code = 0u32;
-    let mut rest = text;
+    let mut code = Read {
+        value: 0,
+        rest: text,
+    };
     for number in 0..numbers.variable_count() {
-        let Some((low, high)) = numbers.variable_bounds(number) else {
-            return None;
-        };
-        let value = read_value(low, high, code, rest)?;
-        code = value.value;
-        rest = value.rest;
+        let (low, high) = numbers.variable_bounds(number)?;
+        code = read_value(low, high, code)?;
     }
-    match rest {
-        [] => Some(code as u16),
-        _ => None,
-    }
+    let code = code.alone()?;
+    Some(code as u16)
 }

@@ -6,5 +6,5 @@ use Rattle.number_text.proofs.values.read_values.Given as goal
 
 abbrev pub invariant-loop-number : goal.invariant-loop-number
 invariant-loop-number l =
-    ((l.code + 1) * combinations (drop l.number (numbers_of l.numbers).variables) ≤ 65535) ×
-    (values_read (drop l.number (numbers_of l.numbers).variables) l.code l.rest ≡ values_read (numbers_of l.numbers).variables 0 l.text)
+    ((l.code.value + 1) * combinations (drop l.number (numbers_of l.numbers).variables) ≤ 65535) ×
+    (values_read (drop l.number (numbers_of l.numbers).variables) l.code.value l.code.rest.now ≡ values_read (numbers_of l.numbers).variables 0 l.text)
