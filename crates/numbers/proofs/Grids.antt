@@ -1,14 +1,15 @@
 -- One variable more: the spans of the earlier ones grow by its width.
-use Rattle.std.proofs.Common.{◌≡◌, ℕ, zero, suc, ◌+◌, ◌-◌, ◌*◌, ◌<◌, ◌≤◌, Bool, true, false, cond, ◌&&◌, ltb, leb, ◌⊎◌, List, [], ◌∷◌, ◌++◌, map, length, get_or, take, drop, set, replicate, ℤ, Some, None, sym, refl, ap, ◌∙◌, subst, ap₂, inl, inr, mul_assoc, arith}
+use Rattle.std.proofs.Common.{◌≡◌, ℕ, zero, suc, ◌+◌, ◌-◌, ◌*◌, ◌<◌, ◌≤◌, Bool, true, false, cond, ◌&&◌, leb, eqb, List, [], ◌∷◌, ◌++◌, map, length, get_or, take, drop, ℤ, Some, None, sym, refl, ap, ◌∙◌, ap₂, le_of_suc-le-suc, mul_assoc, arith}
 use lib.Signed.{le_z}
 use Rattle.std.proofs.lemmas.Nat.{mul-le}
-use Rattle.std.proofs.lemmas.List.{length-map, length-take-le, length-set, length-append, length-drop, get_or_append_left, get_or-append_right, get_or-map, get_or-take, get_or-drop, get_or-set_same, get_or-set_other, take_more_set, map_push, drop-append-le, drop_all, length_push, get_or-replicate}
-use Rattle.std.proofs.lemmas.Bool.{and_parts, leb-true, cases_eq, cases_lt, cond-true, and_from, lt-ltb}
-use Rattle.numbers.specs.Kept.{bounds_of, grid_bounds, variable_made, grid_single, grid_more}
+use Rattle.std.proofs.lemmas.List.{length-map, length-take-le, get_or-append_right, get_or-drop, map_push, length_push}
+use Rattle.std.proofs.lemmas.Bool.{cond-true, and_parts, leb-true, and_from, eq-eqb, eqb-true}
 use Rattle.numbers.specs.declared.grid.Grid.{Grid}
+use Rattle.numbers.specs.declared.variable.Spanned.{Spanned}
 use Rattle.numbers.specs.declared.variable.Variable.{Variable}
+use Rattle.numbers.specs.Kept.{bounds_of, grid_bounds, variable_made, grid_single}
 use Rattle.numbers.specs.Limits.{within, value_count, bounds_fit}
-use Rattle.numbers.specs.Spans.{product}
+use Rattle.numbers.specs.Spans.{product, spans_stand, widened}
 
 -- what a variable has to show
 pub record Made (low high : ℤ) (width : ℕ) : Type 0 where
@@ -42,136 +43,102 @@ facts_made codes low high width some fit is =
     }
 
 -- products of widths
-pub product_some : (vs : List Variable) → 1 ≤ product vs
+pub product_some : (vs : List Spanned) → 1 ≤ product vs
 product_some [] = omega arith
-product_some (v ∷ vs) = omega (arith, mul-le 1 1 v.width (product vs) v.some (product_some vs))
+product_some (v ∷ vs) = omega (arith, mul-le 1 1 v.variable.width (product vs) v.variable.some (product_some vs))
 
-pub product_drop : (k : ℕ) (vs : List Variable) → product (drop k vs) ≤ product vs
-product_drop zero vs = omega arith
-product_drop (suc k) [] = omega arith
-product_drop (suc k) (v ∷ vs) =
-    let tail = product_drop k vs in
-    let once = mul-le 1 (product vs) v.width (product vs) v.some (omega arith) in
-    omega arith
-
-pub product_push : (vs : List Variable) (v : Variable) → product (vs ++ v ∷ []) ≡ product vs * v.width
+pub product_push : (vs : List Spanned) (v : Spanned) → product (vs ++ v ∷ []) ≡ product vs * v.variable.width
 product_push [] v = omega arith
-product_push (u ∷ vs) v = ap (λ n. u.width * n) (product_push vs v) ∙ sym (mul_assoc u.width (product vs) v.width)
+product_push (u ∷ vs) v = ap (λ n. u.variable.width * n) (product_push vs v) ∙ sym (mul_assoc u.variable.width (product vs) v.variable.width)
 
--- spans scaled in front of a place, and kept from there on
-module _ (spans : List ℕ) (n by : ℕ) (whole : n ≤ length spans) where
-  abbrev scaled_front : List ℕ
-  scaled_front = map (λ s. s * by) (take n spans)
+-- widening keeps the product of the widths
+pub product_widened : (vs : List Spanned) (by : ℕ) → product (map (λ v. widened v by) vs) ≡ product vs
+product_widened [] by = refl
+product_widened (v ∷ vs) by = ap (λ n. v.variable.width * n) (product_widened vs by)
 
-  front_length : length scaled_front ≡ n
-  front_length = length-map (take n spans) (λ s. s * by) ∙ length-take-le n spans whole
+-- the spans stand again once the earlier ones are widened
+pub spans_push : (vs : List Spanned) (w : Spanned) → w.span ≡ 1 → spans_stand vs ≡ true
+    → spans_stand (map (λ v. widened v w.variable.width) vs ++ w ∷ []) ≡ true
+spans_push [] w last h = and_from (eqb w.span 1) true (eq-eqb w.span 1 last) refl
+spans_push (v ∷ vs) w last h =
+    let both = and_parts (eqb v.span (product vs)) (spans_stand vs) h in
+    let more = map (λ u. widened u w.variable.width) vs ++ w ∷ [] in
+    let grown : v.span * w.variable.width ≡ product more =
+    ap (λ n. n * w.variable.width) (eqb-true v.span (product vs) both.0 ∙ sym (product_widened vs w.variable.width)) ∙ sym (product_push (map (λ u. widened u w.variable.width) vs) w) in
+    and_from (eqb (v.span * w.variable.width) (product more)) (spans_stand more) (eq-eqb (v.span * w.variable.width) (product more) grown) (spans_push vs w last both.1)
 
-  pub scaled_length : length (scaled_front ++ drop n spans) ≡ length spans
-  scaled_length = length-append scaled_front (drop n spans) ∙ omega (arith, front_length, length-drop n spans)
+-- a span is at least 1, and at most the product of the widths
+pub span_ahead : (vs : List Spanned) (i : ℕ) (d : Spanned) → i < length vs → spans_stand vs ≡ true → 1 ≤ (get_or vs i d).span
+span_ahead [] i d h stand = let no : ⊥ = omega arith in absurd no
+span_ahead (v ∷ vs) zero d h stand =
+    omega (arith, eqb-true v.span (product vs) (and_parts (eqb v.span (product vs)) (spans_stand vs) stand).0, product_some vs)
+span_ahead (v ∷ vs) (suc i) d h stand = span_ahead vs i d (le_of_suc-le-suc h) (and_parts (eqb v.span (product vs)) (spans_stand vs) stand).1
 
-  pub scaled_below : (k : ℕ) → k < n → get_or (scaled_front ++ drop n spans) k 0 ≡ get_or spans k 0 * by
-  scaled_below k h =
-      get_or_append_left scaled_front (drop n spans) 0 k (omega (arith, front_length))
-      ∙ get_or-map (λ s. s * by) (take n spans) k 0 0 (omega (arith, length-take-le n spans whole))
-      ∙ ap (λ s. s * by) (get_or-take n spans k 0 h)
+pub span_most : (vs : List Spanned) (i : ℕ) (d : Spanned) → i < length vs → spans_stand vs ≡ true → (get_or vs i d).span ≤ product vs
+span_most [] i d h stand = let no : ⊥ = omega arith in absurd no
+span_most (v ∷ vs) zero d h stand =
+    let once = mul-le 1 (product vs) v.variable.width (product vs) v.variable.some (omega arith) in
+    omega (arith, eqb-true v.span (product vs) (and_parts (eqb v.span (product vs)) (spans_stand vs) stand).0)
+span_most (v ∷ vs) (suc i) d h stand =
+    let once = mul-le 1 (product vs) v.variable.width (product vs) v.variable.some (omega arith) in
+    omega (arith, span_most vs i d (le_of_suc-le-suc h) (and_parts (eqb v.span (product vs)) (spans_stand vs) stand).1)
 
-  pub scaled_above : (k : ℕ) → n ≤ k → get_or (scaled_front ++ drop n spans) k 0 ≡ get_or spans k 0
-  scaled_above k h =
-      let there : n + (k - n) ≡ k = omega arith in
-      get_or-append_right scaled_front (drop n spans) n k 0 front_length h ∙ get_or-drop n spans (k - n) 0 ∙ ap (λ j. get_or spans j 0) there
+-- widening keeps the bounds
+bounds_widened : (vs : List Spanned) (by : ℕ) → bounds_of (map (λ v. widened v by) vs) ≡ bounds_of vs
+bounds_widened [] by = refl
+bounds_widened (v ∷ vs) by = ap (λ bs. (v.variable.low, v.variable.high) ∷ bs) (bounds_widened vs by)
 
-  -- the next span to be scaled is still as it was
-  pub next_span : (ys : List ℕ) → ys ≡ scaled_front ++ drop n spans → get_or ys n 0 ≡ get_or spans n 0
-  next_span ys e = ap (λ zs. get_or zs n 0) e ∙ scaled_above n (omega arith)
+-- the next item of a list that is rewritten from the front is still as it was
+pub next_is : {X : Type 0} (f : X → X) (xs ys : List X) (i : ℕ) (d : X) → i < length xs → ys ≡ map f (take i xs) ++ drop i xs → get_or ys i d ≡ get_or xs i d
+next_is f xs ys i d h e =
+    let front : length (map f (take i xs)) ≡ i = length-map (take i xs) f ∙ length-take-le i xs (omega arith) in
+    let there : i + (i - i) ≡ i = omega arith in
+    ap (λ zs. get_or zs i d) e
+    ∙ get_or-append_right (map f (take i xs)) (drop i xs) i i d front (omega arith)
+    ∙ get_or-drop i xs (i - i) d
+    ∙ ap (λ j. get_or xs j d) there
 
 -- what a grid has to show
-pub record Grown (vs : List Variable) (spans : List ℕ) (n codes : ℕ) : Type 0 where
-  pub whole : length vs ≡ 8
-  pub wide : length spans ≡ 8
-  pub ahead : (k : ℕ) → k < 8 → 1 ≤ get_or spans k 0
-  pub spanned : (k : ℕ) → k < n → get_or spans k 0 ≡ product (drop (suc k) (take n vs))
-  pub counted : codes ≡ product (take n vs)
+pub record Grown (vs : List Spanned) (codes : ℕ) : Type 0 where
+  pub some : 1 ≤ length vs
+  pub few : length vs ≤ 8
+  pub spanned : spans_stand vs ≡ true
+  pub counted : codes ≡ product vs
   pub coded : 1 ≤ codes
 
 -- one variable alone
-pub single_facts : (v : Variable) → Grown (replicate 8 v) (replicate 8 1) 1 v.width
-single_facts v = record {
-  whole = refl;
-  wide = refl;
-  ahead = λ k h. omega (arith, get_or-replicate {A = ℕ} 8 k 1 0 h);
-  spanned = λ k h. let first : k ≡ 0 = omega arith in subst (λ (j : ℕ). get_or (replicate 8 1) j 0 ≡ product (drop (suc j) (v ∷ []))) (sym first) refl;
-  counted = omega arith;
-  coded = v.some;
+pub single_facts : (v : Spanned) (vs : List Spanned) → v.span ≡ 1 → vs ≡ v ∷ [] → Grown vs v.variable.width
+single_facts v vs last is = record {
+  some = omega (arith, ap length is);
+  few = omega (arith, ap length is);
+  spanned = ap spans_stand is ∙ spans_push [] v last refl;
+  counted = omega (arith, ap product is);
+  coded = v.variable.some;
 }
 
--- every span times a width is small where the codes times it are
-pub span_fits : (g : Grid) (by limit : ℕ) → g.codes * by ≤ limit → (k : ℕ) → k < g.count → get_or g.spans k 0 * by ≤ limit
-span_fits g by limit h k lt =
-    let s = g.spanned k lt in
-    let d = product_drop (suc k) (take g.count g.variables) in
-    let m = mul-le (get_or g.spans k 0) by g.codes by (omega (arith, g.counted)) (omega arith) in
-    omega arith
+-- one variable more
+module _ (g : Grid) (w : Spanned) (vs : List Spanned) (room : length g.variables.items < 8) (last : w.span ≡ 1)
+    (is : vs ≡ map (λ v. widened v w.variable.width) g.variables.items ++ w ∷ []) where
+  abbrev front : List Spanned
+  front = map (λ v. widened v w.variable.width) g.variables.items
 
-module _ (g : Grid) (v : Variable) (room : g.count < 8) where
-  abbrev kept : List Variable
-  kept = take g.count g.variables
+  pub grown : Grown vs (g.codes * w.variable.width)
+  grown =
+      let long = length-map g.variables.items (λ v. widened v w.variable.width) in
+      let more = length_push front w in
+      record {
+        some = omega (arith, ap length is);
+        few = omega (arith, ap length is);
+        spanned = ap spans_stand is ∙ spans_push g.variables.items w last g.spanned;
+        counted = ap (λ n. n * w.variable.width) (g.counted ∙ sym (product_widened g.variables.items w.variable.width)) ∙ sym (product_push front w) ∙ ap product (sym is);
+        coded = omega (arith, mul-le 1 1 g.codes w.variable.width g.coded w.variable.some);
+      }
 
-  abbrev more : List Variable
-  more = set g.variables g.count v
-
-  abbrev scaled_spans : List ℕ
-  scaled_spans = map (λ s. s * v.width) (take g.count g.spans) ++ drop g.count g.spans
-
-  within_variables : g.count < length g.variables
-  within_variables = omega (arith, g.whole)
-
-  within_spans : g.count ≤ length g.spans
-  within_spans = omega (arith, g.wide)
-
-  pub taken : take (g.count + 1) more ≡ kept ++ v ∷ []
-  taken = take_more_set g.variables g.count v within_variables
-
-  kept_length : length kept ≡ g.count
-  kept_length = length-take-le g.count g.variables (omega (arith, g.whole))
-
-  new_span : get_or (set scaled_spans g.count 1) g.count 0 ≡ 1
-  new_span = get_or-set_same scaled_spans g.count 1 0 (omega (arith, scaled_length g.spans g.count v.width within_spans, g.wide))
-
-  old_span : (k : ℕ) → (k ≡ g.count → ⊥) → get_or (set scaled_spans g.count 1) k 0 ≡ get_or scaled_spans k 0
-  old_span k ne = get_or-set_other scaled_spans g.count k 1 0 ne
-
-  ahead_by : (k : ℕ) → k < 8 → (k ≡ g.count) ⊎ (k ≡ g.count → ⊥) → (k < g.count) ⊎ (g.count ≤ k) → 1 ≤ get_or (set scaled_spans g.count 1) k 0
-  ahead_by k h (inl e) side = subst (λ (j : ℕ). 1 ≤ get_or (set scaled_spans g.count 1) j 0) (sym e) (omega (arith, new_span))
-  ahead_by k h (inr ne) (inl lt) =
-      let s = scaled_below g.spans g.count v.width within_spans k lt in
-      omega (arith, old_span k ne, s, mul-le 1 1 (get_or g.spans k 0) v.width (g.ahead k h) v.some)
-  ahead_by k h (inr ne) (inr le) =
-      omega (arith, old_span k ne, scaled_above g.spans g.count v.width within_spans k le, g.ahead k h)
-
-  spanned_by : (k : ℕ) → k < g.count + 1 → (k ≡ g.count) ⊎ (k ≡ g.count → ⊥)
-      → get_or (set scaled_spans g.count 1) k 0 ≡ product (drop (suc k) (take (g.count + 1) more))
-  spanned_by k h (inl e) =
-      let all : length (take (g.count + 1) more) ≤ suc k = omega (arith, ap length taken, length_push kept v, kept_length) in
-      ap (λ j. get_or (set scaled_spans g.count 1) j 0) e ∙ new_span ∙ sym (ap product (drop_all (suc k) (take (g.count + 1) more) all))
-  spanned_by k h (inr ne) =
-      let lt : k < g.count = omega arith in
-      let inside : suc k ≤ length kept = omega (arith, kept_length) in
-      old_span k ne
-      ∙ scaled_below g.spans g.count v.width within_spans k lt
-      ∙ ap (λ s. s * v.width) (g.spanned k lt)
-      ∙ sym (product_push (drop (suc k) kept) v)
-      ∙ ap product (sym (drop-append-le (suc k) kept (v ∷ []) inside))
-      ∙ ap (λ xs. product (drop (suc k) xs)) (sym taken)
-
-  pub grown : Grown more (set scaled_spans g.count 1) (g.count + 1) (g.codes * v.width)
-  grown = record {
-    whole = length-set g.variables g.count v ∙ g.whole;
-    wide = length-set scaled_spans g.count 1 ∙ scaled_length g.spans g.count v.width within_spans ∙ g.wide;
-    ahead = λ k h. ahead_by k h (cases_eq k g.count) (cases_lt k g.count);
-    spanned = λ k h. spanned_by k h (cases_eq k g.count);
-    counted = ap (λ n. n * v.width) g.counted ∙ sym (product_push kept v) ∙ ap product (sym taken);
-    coded = omega (arith, mul-le 1 1 g.codes v.width g.coded v.some);
-  }
+  pub bounds_push : bounds_of vs ≡ grid_bounds g ++ (w.variable.low, w.variable.high) ∷ []
+  bounds_push =
+      ap bounds_of is
+      ∙ map_push (λ (v : Spanned). (v.variable.low, v.variable.high)) front w
+      ∙ ap (λ bs. bs ++ (w.variable.low, w.variable.high) ∷ []) (bounds_widened g.variables.items w.variable.width)
 
 -- what was made where it fits
 pub made_by : {X : Type 0} (fit : Bool) (x y : X) → Some x ≡ cond fit (Some y) None → (fit ≡ true) × (x ≡ y)
@@ -184,31 +151,7 @@ not_made_by false y e = refl
 
 -- bounds as they are passed
 module _ (low high low' high' : ℤ) (el : low' ≡ low) (eh : high' ≡ high) where
-  pub new_is : (codes : ℕ) → bounds_fit codes low' high' ≡ true → Some (low', high') ≡ variable_made codes low high
-  new_is codes fit = sym (cond-true _ _ _ fit) ∙ ap₂ (variable_made codes) el eh
-
   pub single_is : (v : Variable) → Some (v.low, v.high) ≡ variable_made 1 low' high' → Some ((v.low, v.high) ∷ []) ≡ grid_single low high
   single_is v is =
       let made = made_by (bounds_fit 1 low' high') (v.low, v.high) (low', high') is in
       ap (λ p. Some (p ∷ [])) made.1 ∙ sym (cond-true _ _ _ made.0) ∙ ap₂ grid_single el eh
-
-  pub single_none : None ≡ variable_made 1 low' high' → None ≡ grid_single low high
-  single_none is =
-      sym (ap (λ b. cond b (Some ((low', high') ∷ [])) None) (not_made_by (bounds_fit 1 low' high') (low', high') is)) ∙ ap₂ grid_single el eh
-
-  pub more_is : (g : Grid) (v : Variable) → g.count < 8 → Some (v.low, v.high) ≡ variable_made g.codes low' high'
-      → Some (bounds_of (take (g.count + 1) (set g.variables g.count v))) ≡ grid_more g low high
-  more_is g v room is =
-      let made = made_by (bounds_fit g.codes low' high') (v.low, v.high) (low', high') is in
-      let fit = and_from (ltb g.count 8) (bounds_fit g.codes low' high') (lt-ltb g.count 8 room) made.0 in
-      ap (λ vs. Some (bounds_of vs)) (taken g v room)
-      ∙ ap Some (map_push (λ u. (u.low, u.high)) (take g.count g.variables) v)
-      ∙ ap (λ p. Some (grid_bounds g ++ p ∷ [])) made.1
-      ∙ sym (cond-true _ _ _ fit)
-      ∙ ap₂ (grid_more g) el eh
-
-  pub more_none : (g : Grid) → g.count < 8 → None ≡ variable_made g.codes low' high' → None ≡ grid_more g low high
-  more_none g room is =
-      let off : (ltb g.count 8 && bounds_fit g.codes low' high') ≡ false =
-      ap₂ (λ a b. a && b) (lt-ltb g.count 8 room) (not_made_by (bounds_fit g.codes low' high') (low', high') is) in
-      sym (ap (λ b. cond b (Some (grid_bounds g ++ (low', high') ∷ [])) None) off) ∙ ap₂ (grid_more g) el eh

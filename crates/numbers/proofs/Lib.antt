@@ -5,7 +5,5 @@ pub mod Limited
 pub mod Means
 pub mod Products
 pub mod Readings
-pub mod Rosters
 pub mod Shown
 pub mod Sums
-pub mod Terms

@@ -8,17 +8,16 @@ use Rattle.std.proofs.lemmas.Int.{ints}
 use Rattle.theory.proofs.Texts.{item_short, print_more}
 use Rattle.theory.specs.Print.{item, spaced}
 use Rattle.writer.specs.Puts.{put_at, put_answer, put_leaves}
+use Rattle.names.specs.Rosters.{texts}
 use Rattle.numbers.specs.declared.numbers.Numbers.{Numbers}
 use Rattle.numbers.specs.Codes.{all_values, code_of, ValuesTellCodes}
 use Rattle.numbers.specs.Kept.{grid_value}
 use Rattle.numbers.specs.Limits.{within, value_count}
 use Rattle.numbers.specs.Model.{numbers_of}
 use Rattle.numbers.specs.Values.{VariableModel, combinations, value}
-use Rattle.numbers.specs.Variables.{texts}
 use Rattle.numbers.proofs.Bounds.{within_bounds, passed}
 use Rattle.numbers.proofs.Means.{value_is}
 use Rattle.numbers.proofs.Readings.{count_variables}
-use Rattle.numbers.proofs.Rosters.{texts_length}
 
 some_combination : (vs : List VariableModel) → 0 < combinations vs
 some_combination [] = omega arith
@@ -62,17 +61,17 @@ module _ (t : Numbers) (code : ℕ) where
   abbrev values : List ℤ
   values = all_values (numbers_of t).variables code
 
-  pub values_count : length values ≡ t.grid.count
+  pub values_count : length values ≡ length t.grid.variables.items
   values_count = values_length (numbers_of t).variables code ∙ count_variables t
 
-  more_values : (i : ℕ) → i < t.grid.count → take (i + 1) values ≡ take i values ++ grid_value t.grid i code ∷ []
+  more_values : (i : ℕ) → i < length t.grid.variables.items → take (i + 1) values ≡ take i values ++ grid_value t.grid i code ∷ []
   more_values i h =
       take_more values i (pos 0) (omega (arith, values_count))
       ∙ ap (λ (z : ℤ). take i values ++ z ∷ [])
-      (values_at (numbers_of t).variables i code (omega (arith, count_variables t)) ∙ value_is (texts t.names) t.grid (texts_length t.names ∙ t.paired) i code h)
+      (values_at (numbers_of t).variables i code (omega (arith, count_variables t)) ∙ value_is (texts t.names) t.grid t.paired i code h)
 
   -- one value more
-  pub values_more : (bytes : List ℕ) (i : ℕ) (x : ℤ) (at e : ℕ) (out after : List ℕ) → i < t.grid.count → x ≡ grid_value t.grid i code → within 10000 x ≡ true
+  pub values_more : (bytes : List ℕ) (i : ℕ) (x : ℤ) (at e : ℕ) (out after : List ℕ) → i < length t.grid.variables.items → x ≡ grid_value t.grid i code → within 10000 x ≡ true
       → at ≡ length (spaced (take i values)) → out ≡ put_at bytes 0 (spaced (take i values)) → at ≤ 7 * i
       → Some e ≡ put_answer (length out) at (item at (to_z w32 (of_z w32 x))) → after ≡ put_leaves out at (item at (to_z w32 (of_z w32 x)))
       → e ≡ at + length (item at (to_z w32 (of_z w32 x)))

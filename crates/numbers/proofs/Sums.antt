@@ -1,12 +1,11 @@
 -- One more term of an atom's sum.
-use Rattle.std.proofs.Common.{◌≡◌, ℕ, zero, suc, ◌+◌, ◌*◌, ◌/◌, ◌%◌, ◌<◌, ◌≤◌, true, false, ◌&&◌, List, [], ◌∷◌, length, get_or, take, drop, ℤ, pos, negsuc, ◌+ℤ◌, neg_ℤ, ◌≤ℤ◌, sym, refl, ap, ◌∙◌, ap₂, le_of_suc-le-suc, arith, w32, to_z, of_z}
-use Rattle.std.proofs.lemmas.List.{at_drop_more, at_drop_all}
+use Rattle.std.proofs.Common.{◌≡◌, ℕ, zero, suc, ◌+◌, ◌*◌, ◌/◌, ◌%◌, ◌<◌, true, List, [], ◌∷◌, length, get_or, take, ℤ, pos, negsuc, ◌+ℤ◌, neg_ℤ, ◌≤ℤ◌, sym, refl, ◌∙◌, ap₂, le_of_suc-le-suc, arith, w32, to_z, of_z}
 use Rattle.std.proofs.lemmas.Int.{ints}
 use Rattle.std.proofs.lemmas.List.Sums.{fold_more}
 use Rattle.std.proofs.lemmas.Bool.{and_parts}
 use Rattle.numbers.specs.declared.grid.Grid.{Grid}
 use Rattle.numbers.specs.declared.term.Term.{Term}
-use Rattle.numbers.specs.declared.variable.Variable.{Variable}
+use Rattle.numbers.specs.declared.variable.Spanned.{Spanned}
 use Rattle.numbers.specs.Kept.{kept_value, amount_of, kept_sum}
 use Rattle.numbers.specs.Limits.{term_fits, terms_fit}
 
@@ -16,25 +15,12 @@ term_at variables [] i d h e = let no : ⊥ = omega arith in absurd no
 term_at variables (t ∷ ts) zero d h e = (and_parts (term_fits variables t) (terms_fit variables ts) e).0
 term_at variables (t ∷ ts) (suc i) d h e = term_at variables ts i d (le_of_suc-le-suc h) (and_parts (term_fits variables t) (terms_fit variables ts) e).1
 
--- terms are tried one by one
-module _ (variables : ℕ) (ts : List Term) (i : ℕ) (so_far : terms_fit variables (drop i ts) ≡ terms_fit variables ts) where
-  pub fit_stops : (d : Term) → i < length ts → term_fits variables (get_or ts i d) ≡ false → false ≡ terms_fit variables ts
-  fit_stops d h e =
-      sym (ap (λ b. b && terms_fit variables (drop (i + 1) ts)) e) ∙ sym (at_drop_more (terms_fit variables) ts i d h) ∙ so_far
-
-  pub fit_goes : (d : Term) → i < length ts → term_fits variables (get_or ts i d) ≡ true → terms_fit variables (drop (i + 1) ts) ≡ terms_fit variables ts
-  fit_goes d h e =
-      sym (ap (λ b. b && terms_fit variables (drop (i + 1) ts)) e) ∙ sym (at_drop_more (terms_fit variables) ts i d h) ∙ so_far
-
-  pub fit_ends : length ts ≤ i → true ≡ terms_fit variables ts
-  fit_ends h = sym (at_drop_all (terms_fit variables) ts i h) ∙ so_far
-
 -- the value of the variable at a place
-pub kept_at : (vs : List Variable) (span i code : ℕ) (d : Variable) → i < length vs
-    → kept_value vs span i code ≡ (get_or vs i d).low +ℤ pos (code / span % (get_or vs i d).width)
-kept_at [] span i code d h = let no : ⊥ = omega arith in absurd no
-kept_at (v ∷ vs) span zero code d h = refl
-kept_at (v ∷ vs) span (suc i) code d h = kept_at vs span i code d (le_of_suc-le-suc h)
+pub kept_at : (vs : List Spanned) (i code : ℕ) (d : Spanned) → i < length vs
+    → kept_value vs i code ≡ (get_or vs i d).variable.low +ℤ pos (code / (get_or vs i d).span % (get_or vs i d).variable.width)
+kept_at [] i code d h = let no : ⊥ = omega arith in absurd no
+kept_at (v ∷ vs) zero code d h = refl
+kept_at (v ∷ vs) (suc i) code d h = kept_at vs i code d (le_of_suc-le-suc h)
 
 -- the sum as the code computes it
 pub sum_is : (i : ℕ) (x : ℤ) {sum : ℤ} → i < 4

@@ -1,24 +1,26 @@
 -- What is kept for speed, and what is read off it.
-use Rattle.std.specs.Prelude.{ℕ, zero, suc, ◌*◌, ◌/◌, ◌%◌, Bool, true, false, cond, ◌&&◌, List, [], ◌∷◌, ◌++◌, map, take, ℤ, pos, ◌+ℤ◌, ◌*ℤ◌, Some, None, fold, Option, nat_le, nat_lt, slice_index}
+use Rattle.std.specs.Prelude.{ℕ, zero, suc, ◌*◌, ◌/◌, ◌%◌, Bool, true, false, cond, ◌&&◌, List, [], ◌∷◌, map, length, ℤ, pos, ◌+ℤ◌, ◌*ℤ◌, Some, None, fold, Option, nat_le, nat_lt}
+use Rattle.std.specs.List.{list_all}
 use Rattle.theory.specs.declared.next.Next.{Next}
 use Rattle.theory.specs.declared.next.Next.TheVariants as next
 use Rattle.numbers.specs.declared.term.Moment.{Moment}
 use Rattle.numbers.specs.declared.term.Moment.TheVariants as moment
 use Rattle.numbers.specs.declared.term.Comparison.{Comparison}
 use Rattle.numbers.specs.declared.term.Term.{Term}
+use Rattle.numbers.specs.declared.variable.Spanned.{Spanned}
 use Rattle.numbers.specs.declared.variable.Variable.{Variable}
 use Rattle.numbers.specs.declared.grid.Grid.{Grid}
 use Rattle.numbers.specs.declared.atom.Atom.{Atom}
-use Rattle.numbers.specs.Limits.{bounds_fit, terms_fit, sum_fits}
+use Rattle.numbers.specs.Limits.{bounds_fit, sum_fits}
 use Rattle.numbers.specs.Values.{VariableModel, AtomModel, compared}
 
 -- the bounds of variables, in their order
-abbrev pub bounds_of : List Variable → List (ℤ × ℤ)
-bounds_of vs = map (λ v. (v.low, v.high)) vs
+abbrev pub bounds_of : List Spanned → List (ℤ × ℤ)
+bounds_of vs = map (λ v. (v.variable.low, v.variable.high)) vs
 
 -- the bounds of the variables of a grid
 abbrev pub grid_bounds : Grid → List (ℤ × ℤ)
-grid_bounds g = bounds_of (take g.count g.variables)
+grid_bounds g = bounds_of g.variables.items
 
 -- the bounds in a grid that may be missing
 abbrev pub grid_seen : Option Grid → Option (List (ℤ × ℤ))
@@ -43,10 +45,9 @@ leaves_room codes None = true
 abbrev pub grid_single : (low high : ℤ) → Option (List (ℤ × ℤ))
 grid_single low high = cond (bounds_fit 1 low high) (Some ((low, high) ∷ [])) None
 
--- one more variable, where there is room and its bounds fit
-abbrev pub grid_more : Grid → (low high : ℤ) → Option (List (ℤ × ℤ))
-grid_more g low high =
-    cond (nat_lt g.count 8 && bounds_fit g.codes low high) (Some (grid_bounds g ++ (low, high) ∷ [])) None
+-- the bounds of one more variable, where there is room and they fit
+abbrev pub variable_fits : Grid → (low high : ℤ) → Option (ℤ × ℤ)
+variable_fits g low high = cond (nat_lt (length g.variables.items) 8 && bounds_fit g.codes low high) (Some (low, high)) None
 
 -- names and bounds together
 abbrev pub named : List (List ℕ) → List (ℤ × ℤ) → List VariableModel
@@ -56,7 +57,7 @@ named (n ∷ ns) (b ∷ bs) = record { name = n; low = b.0; high = b.1 } ∷ nam
 
 -- the atom that is kept
 abbrev pub atom_of : Atom → AtomModel
-atom_of a = record { terms = take a.count a.terms; comparison = a.comparison; constant = a.constant }
+atom_of a = record { terms = a.terms.items; comparison = a.comparison; constant = a.constant }
 
 -- the atom that may be missing
 abbrev pub atom_seen : Option Atom → Option AtomModel
@@ -71,25 +72,19 @@ as_atom terms comparison constant = record { terms = terms; comparison = compari
 abbrev pub atom_made : (variables : ℕ) → List Term → Comparison → (constant : ℤ) → Option AtomModel
 atom_made variables terms comparison constant = cond (sum_fits variables terms constant) (Some (as_atom terms comparison constant)) None
 
--- the terms of a kept atom name these variables
-abbrev pub atom_knows : (variables : ℕ) → Option Atom → Bool
-atom_knows variables (Some a) = terms_fit variables a.terms
-atom_knows variables None = true
-
--- the terms of every kept atom do
-abbrev pub atoms_know : (variables : ℕ) → List Atom → Bool
-atoms_know variables [] = true
-atoms_know variables (a ∷ rest) = terms_fit variables a.terms && atoms_know variables rest
+-- every atom is a sum of 1 to 4 terms over the variables, with its constant in range
+abbrev pub sums_stand : (variables : ℕ) → List AtomModel → Bool
+sums_stand variables atoms = list_all (λ a. sum_fits variables a.terms a.constant) atoms
 
 -- the value of variable i, read by its span
-abbrev pub kept_value : List Variable → (span i code : ℕ) → ℤ
-kept_value [] span i code = pos 0
-kept_value (v ∷ vs) span zero code = v.low +ℤ pos (code / span % v.width)
-kept_value (v ∷ vs) span (suc i) code = kept_value vs span i code
+abbrev pub kept_value : List Spanned → (i code : ℕ) → ℤ
+kept_value [] i code = pos 0
+kept_value (v ∷ vs) zero code = v.variable.low +ℤ pos (code / v.span % v.variable.width)
+kept_value (v ∷ vs) (suc i) code = kept_value vs i code
 
 -- the value of variable i in a code, read by its kept span
 abbrev pub grid_value : Grid → (i code : ℕ) → ℤ
-grid_value g i code = kept_value g.variables (slice_index g.spans i) i code
+grid_value g i code = kept_value g.variables.items i code
 
 -- the code that a term reads, where a code comes next
 abbrev pub read_at : Moment → (code next : ℕ) → ℕ
@@ -107,7 +102,7 @@ kept_sum g code n ts = fold (λ sum t. sum +ℤ amount_of g code n t) (pos 0) ts
 
 -- an atom compares its sum where a code comes next
 abbrev pub kept_compared : Grid → (code next : ℕ) → Atom → Bool
-kept_compared g code n a = compared a.comparison (kept_sum g code n (take a.count a.terms)) a.constant
+kept_compared g code n a = compared a.comparison (kept_sum g code n a.terms.items) a.constant
 
 -- what an atom comes to where nothing comes next, by the strongest of its moments
 abbrev pub at_last : Moment → (plain : Bool) → Bool

@@ -1,5 +1,6 @@
 -- The limits of a numbers theory.
-use Rattle.std.specs.Prelude.{ℕ, ◌+◌, ◌*◌, Bool, true, ◌&&◌, List, [], ◌∷◌, length, ℤ, ◌-ℤ◌, int_le, nat_le, nat_lt, unsigned_abs}
+use Rattle.std.specs.Prelude.{ℕ, ◌+◌, ◌*◌, Bool, ◌&&◌, List, length, ℤ, ◌-ℤ◌, int_le, nat_le, nat_lt, unsigned_abs}
+use Rattle.std.specs.List.{list_all}
 use Rattle.numbers.specs.declared.term.Term.{Term}
 
 -- a number lies within ±limit
@@ -20,8 +21,7 @@ term_fits variables t = nat_lt t.variable variables && within 1000 t.coefficient
 
 -- every term does
 abbrev pub terms_fit : (variables : ℕ) → List Term → Bool
-terms_fit variables [] = true
-terms_fit variables (t ∷ ts) = term_fits variables t && terms_fit variables ts
+terms_fit variables ts = list_all (term_fits variables) ts
 
 -- an atom is a sum of 1 to 4 such terms, and its constant lies within ±40,000,000
 abbrev pub sum_fits : (variables : ℕ) → List Term → (constant : ℤ) → Bool

@@ -1,12 +1,12 @@
 -- What a numbers theory holds, and what it means.
-use Rattle.std.specs.Prelude.{◌≡◌, ℕ, ◌<◌, ◌≤◌, Bool, true, false, ◌&&◌, List, [], ◌∷◌, map, length, take, ℤ, int_le, slice_index_or}
-use Rattle.std.proofs.Common.{◌∙◌, arith}
-use Rattle.std.proofs.lemmas.List.{length-map, length-take-le}
+use Rattle.std.specs.Prelude.{◌≡◌, ℕ, ◌<◌, ◌≤◌, Bool, true, false, ◌&&◌, List, [], ◌∷◌, map, length, ℤ, int_le, slice_index_or}
+use Rattle.std.proofs.Common.{arith}
+use Rattle.std.proofs.lemmas.List.{length-map}
 use Rattle.names.specs.Letters.{is_name}
 use Rattle.theory.specs.Meaning.{Meaning, InRange}
 use Rattle.numbers.specs.declared.numbers.Numbers.{Numbers}
-use Rattle.numbers.specs.Kept.{atom_of, named}
-use Rattle.numbers.specs.Limits.{within, sum_fits}
+use Rattle.numbers.specs.Kept.{atom_of, named, sums_stand}
+use Rattle.numbers.specs.Limits.{within}
 use Rattle.numbers.specs.Values.{VariableModel, AtomModel, combinations, atom_holds}
 use Rattle.numbers.specs.Variables.{variables_of}
 
@@ -17,7 +17,7 @@ pub record NumbersModel : Type 0 where
 
 -- the variables and atoms that are filled in
 abbrev pub numbers_of : Numbers → NumbersModel
-numbers_of t = record { variables = variables_of t.names t.grid; atoms = map atom_of (take t.used t.atoms) }
+numbers_of t = record { variables = variables_of t.names t.grid; atoms = map atom_of t.atoms.items }
 
 -- codes count the value combinations, and an atom holds where its comparison does
 abbrev pub numbers_meaning : NumbersModel → Meaning
@@ -27,9 +27,9 @@ numbers_meaning m = record {
   fact = λ atom code next. slice_index_or (map (atom_holds m.variables code next) m.atoms) atom false;
 }
 
--- there are as many atoms as are used
-pub count_atoms : (t : Numbers) → length (numbers_of t).atoms ≡ t.used
-count_atoms t = length-map (take t.used t.atoms) atom_of ∙ length-take-le t.used t.atoms (omega (arith, t.whole, t.few))
+-- there are as many atoms as are kept
+pub count_atoms : (t : Numbers) → length (numbers_of t).atoms ≡ length t.atoms.items
+count_atoms t = length-map t.atoms.items atom_of
 
 -- 1 to 4,096 codes, and at most 32 atoms
 pub numbers_ranges : (t : Numbers) → InRange (numbers_meaning (numbers_of t))
@@ -51,11 +51,6 @@ names_of vs = map (λ v. v.name) vs
 abbrev pub bounds_stand : List VariableModel → Bool
 bounds_stand [] = true
 bounds_stand (v ∷ vs) = (within 10000 v.low && (within 10000 v.high && int_le v.low v.high)) && bounds_stand vs
-
--- every atom is a sum of 1 to 4 terms over the variables, with its constant in range
-abbrev pub sums_stand : (variables : ℕ) → List AtomModel → Bool
-sums_stand variables [] = true
-sums_stand variables (a ∷ rest) = sum_fits variables a.terms a.constant && sums_stand variables rest
 
 -- The limits: 1 to 8 variables with different names of 1 to 8 letters, at most 4,096 codes, and at most 32 atoms.
 pub record Within (m : NumbersModel) : Type 0 where

@@ -8,7 +8,7 @@ use Rattle.numbers.specs.declared.term.Term.{Term}
 abbrev pub stronger : Moment → Moment → Moment
 stronger Now m = m
 stronger Next m = Next
-stronger WeakNext m = elim m [ Now ↦ WeakNext | Next ↦ Next | WeakNext ↦ WeakNext ]
+stronger WeakNext m = elim m [ Now ↦ WeakNext | WeakNext ↦ WeakNext | Next ↦ Next ]
 
 -- the strongest moment of the terms; now where there is none
 abbrev pub strongest : List Term → Moment

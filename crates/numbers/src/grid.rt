@@ -1,23 +1,19 @@
-ghost use Rattle.std.specs.Prelude.{◌≡◌, ℕ, suc, ◌<◌, ◌≤◌, length, take, drop, slice_index};
-ghost use Rattle.numbers.specs.Spans.{product};
+ghost use Rattle.std.specs.Prelude.{◌≡◌, ◌≤◌, true, length};
+ghost use Rattle.numbers.specs.Spans.{product, spans_stand};
 
-use super::variable::Variable;
+use super::variable::Spanned;
+use arrayvec::ArrayVec;
 
-/// One to eight variables, and beside each its span: how many value combinations the later variables have.
+/// One to eight variables with their spans.
 /// A code counts the value combinations, the last variable moving fastest.
-#[derive(Clone, Copy, Drop)]
+#[derive(Drop)]
 pub(crate) struct Grid {
-    pub(crate) variables: [Variable; 8],
-    pub(crate) spans: [u16; 8],
-    pub(crate) count: u8,
+    pub(crate) variables: ArrayVec<Spanned, 8>,
     pub(crate) codes: u16,
-    ghost whole: { length variables ≡ 8 },
-    ghost wide: { length spans ≡ 8 },
-    ghost some: { 1 ≤ count },
-    ghost few: { count ≤ 8 },
-    ghost ahead: { (k : ℕ) → k < 8 → 1 ≤ slice_index spans k },
-    ghost spanned: { (k : ℕ) → k < count → slice_index spans k ≡ product (drop (suc k) (take count variables)) },
-    ghost counted: { codes ≡ product (take count variables) },
+    ghost some: { 1 ≤ length variables.items },
+    ghost few: { length variables.items ≤ 8 },
+    ghost spanned: { spans_stand variables.items ≡ true },
+    ghost counted: { codes ≡ product variables.items },
     ghost coded: { 1 ≤ codes },
     ghost most: { codes ≤ 4096 },
 }

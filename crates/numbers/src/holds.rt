@@ -15,11 +15,11 @@ impl Theory for Numbers {
     }
 
     fn atom_count(&self) -> u8 {
-        self.used
+        self.atoms.len() as u8
     }
 
     fn holds(&self, atom: u8, code: u16, next: Next) -> Result<bool, Refusal> {
-        theory::check_within(self.grid.codes, self.used, atom, code, next)?;
+        theory::check_within(self.grid.codes, self.atom_count(), atom, code, next)?;
         Ok(self.atoms[atom as usize].holds(&self.grid, code, next))
     }
 }

@@ -1,5 +1,5 @@
 // The numbers theory: a code counts the values of bounded variables, and an atom compares a sum with a constant.
-// Rests on `refusal`, `writer`, `theory`, `intern` and `names`.
+// Rests on `refusal`, `writer`, `theory`, `intern`, `names` and the kit's `arrayvec`.
 // Promises: the facts are those of the variables and atoms that were filled in, every filling keeps the limits,
 // and a code is printed as its values, which tell the code.
 #![tactic(auto)]
@@ -13,7 +13,6 @@ mod make;
 mod numbers;
 mod print;
 mod read;
-mod roster;
 mod term;
 mod values;
 mod variable;

@@ -40,12 +40,7 @@ fn fit_term(variables: u8, term: Term) -> bool
 fn fit_terms(variables: u8, terms: &[Term]) -> bool
     ensures { result ≡ terms_fit variables terms.now }
 {
-    for term in terms {
-        if !fit_term(variables, *term) {
-            return false;
-        }
-    }
-    true
+    terms.iter().all(|term| fit_term(variables, *term))
 }
 
 /// Whether terms and a constant make an atom.

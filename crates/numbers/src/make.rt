@@ -1,33 +1,36 @@
 // Making grids and atoms.
-ghost use Rattle.std.specs.Prelude.{◌≡◌, ℕ, ◌*◌, ◌^◌, ◌<◌, ◌≤◌, true, ◌++◌, map, take, drop, slice_index};
-ghost use Rattle.numbers.specs.Kept.{variable_seen, variable_made, leaves_room, grid_seen, grid_single, grid_more, atom_seen, atom_made, atom_knows};
-ghost use Rattle.numbers.specs.Limits.{terms_fit};
-ghost use Rattle.numbers.specs.Strength.{stronger, strongest};
+ghost use Rattle.std.specs.Prelude.{◌≡◌, ◌*◌, ◌<◌, ◌≤◌, true, [], ◌∷◌, ◌++◌, length, map};
+ghost use Rattle.numbers.specs.Kept.{bounds_of, grid_bounds, variable_seen, variable_made, variable_fits, leaves_room, grid_seen, grid_single, atom_seen, atom_made};
+ghost use Rattle.numbers.specs.Spans.{product, spans_stand, widened};
+ghost use Rattle.numbers.specs.Strength.{strongest};
 
 use super::atom::Atom;
 use super::grid::Grid;
 use super::limits::{count_values, fit_bounds, fit_sum};
 use super::term::{Comparison, Moment, Term};
-use super::variable::Variable;
+use super::variable::{Spanned, Variable};
+use arrayvec::ArrayVec;
 
-// What stands in the places of an atom that it does not use.
-const UNUSED: Term = Term {
-    coefficient: 0,
-    variable: 0,
-    moment: Moment::Now,
-};
-
-/// The first `count` spans, each `by` times as wide.
-fn scaled(spans: [u16; 8], count: u8, by: u16) -> [u16; 8]
-    requires few { count ≤ 8 }
-    requires fit { (k : ℕ) → k < count → slice_index spans k * by < 2 ^ 16 }
-    ensures { result ≡ map (λ s. s * by) (take count spans) ++ drop count spans }
+/// Makes each span `by` times as wide.
+fn widen(variables: &mut [Spanned], by: u16)
+    requires stand { spans_stand variables.old ≡ true }
+    requires fit { product variables.old * by ≤ 4096 }
+    ensures { variables.new ≡ map (λ v. widened v by) variables.old }
 {
-    let mut scaled = spans;
-    for i in 0..count as usize {
-        scaled[i] *= by;
+    for variable in variables.iter_mut() {
+        variable.span *= by;
     }
-    scaled
+}
+
+impl Default for Variable {
+    // What stands in the places of a grid that it does not use.
+    fn default() -> Variable {
+        Variable {
+            low: 0,
+            high: 0,
+            width: 1,
+        }
+    }
 }
 
 impl Variable {
@@ -41,8 +44,7 @@ impl Variable {
             return None;
         }
         let width = count_values(low, high) as u16;
-        let variable = Variable { low, high, width };
-        Some(variable)
+        Some(Variable { low, high, width })
     }
 }
 
@@ -51,50 +53,35 @@ impl Grid {
     pub(crate) fn single(low: i32, high: i32) -> Option<Grid>
         ensures { grid_seen result ≡ grid_single low high }
     {
-        let Some(variable) = Variable::new(1, low, high) else {
-            return None;
-        };
+        let variable = Variable::new(1, low, high)?;
+        let mut variables = ArrayVec::new();
+        variables.push(Spanned { variable, span: 1 });
         Some(Grid {
-            variables: [variable; 8],
-            spans: [1; 8],
-            count: 1,
+            variables,
             codes: variable.width,
         })
     }
 
-    /// The grid with one variable more, where there is room and its bounds fit.
-    pub(crate) fn with(self, low: i32, high: i32) -> Option<Grid>
-        ensures { grid_seen result ≡ grid_more self low high }
+    /// One variable more, where there is room and its bounds fit.
+    pub(crate) fn fit(&self, low: i32, high: i32) -> Option<Variable>
+        ensures is { variable_seen result ≡ variable_fits self.now low high }
+        ensures few { leaves_room self.now.codes result ≡ true }
     {
-        if self.count >= 8 {
+        if self.variables.is_full() {
             return None;
         }
-        let Some(variable) = Variable::new(self.codes, low, high) else {
-            return None;
-        };
-        let mut spans = scaled(self.spans, self.count, variable.width);
-        spans[self.count as usize] = 1;
-        let mut variables = self.variables;
-        variables[self.count as usize] = variable;
-        Some(Grid {
-            variables,
-            spans,
-            count: self.count + 1,
-            codes: self.codes * variable.width,
-        })
+        Variable::new(self.codes, low, high)
     }
-}
 
-impl Moment {
-    /// The stronger of two moments.
-    fn or_stronger(self, other: Moment) -> Moment
-        ensures { result ≡ stronger self other }
+    /// Adds a variable, which moves faster than all before it.
+    pub(crate) fn push(&mut self, variable: Variable)
+        requires room { length self.old.variables.items < 8 }
+        requires few { self.old.codes * variable.width ≤ 4096 }
+        ensures { grid_bounds self.new ≡ grid_bounds self.old ++ (variable.low, variable.high) ∷ [] }
     {
-        match (self, other) {
-            (Moment::Next, _) | (_, Moment::Next) => Moment::Next,
-            (Moment::WeakNext, _) | (_, Moment::WeakNext) => Moment::WeakNext,
-            (Moment::Now, Moment::Now) => Moment::Now,
-        }
+        widen(&mut self.variables, variable.width);
+        self.variables.push(Spanned { variable, span: 1 });
+        self.codes *= variable.width;
     }
 }
 
@@ -102,27 +89,24 @@ impl Moment {
 fn strongest_moment(terms: &[Term]) -> Moment
     ensures { result ≡ strongest terms.now }
 {
-    let mut strength = Moment::Now;
-    for term in terms {
-        strength = strength.or_stronger(term.moment);
-    }
-    strength
+    terms
+        .iter()
+        .fold(Moment::Now, |strongest, term| strongest.max(term.moment))
 }
 
-impl Atom {
-    /// What stands in the places of a theory that it does not use.
-    pub(crate) fn unused() -> Atom
-        ensures { terms_fit 1 result.terms ≡ true }
-    {
+impl Default for Atom {
+    // What stands in the places of a theory that it does not use.
+    fn default() -> Atom {
         Atom {
-            terms: [UNUSED; 4],
-            count: 1,
+            terms: ArrayVec::new(),
             comparison: Comparison::Equal,
             constant: 0,
             strength: Moment::Now,
         }
     }
+}
 
+impl Atom {
     /// The atom over `variables` variables, where its terms and its constant fit.
     pub(crate) fn new(
         variables: u8,
@@ -130,23 +114,16 @@ impl Atom {
         comparison: Comparison,
         constant: i32,
     ) -> Option<Atom>
-        requires some { 1 ≤ variables }
-        requires few { variables ≤ 8 }
-        ensures is { atom_seen result ≡ atom_made variables terms.now comparison constant }
-        ensures knows { atom_knows variables result ≡ true }
+        ensures { atom_seen result ≡ atom_made variables terms.now comparison constant }
     {
         if !fit_sum(variables, terms, constant) {
             return None;
         }
-        let strength = strongest_moment(terms);
-        let mut kept = [UNUSED; 4];
-        kept[..terms.len()].copy_from_slice(terms);
         Some(Atom {
-            terms: kept,
-            count: terms.len() as u8,
+            terms: ArrayVec::try_from(terms).ok()?,
             comparison,
             constant,
-            strength,
+            strength: strongest_moment(terms),
         })
     }
 }

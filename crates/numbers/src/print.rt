@@ -20,7 +20,7 @@ impl Printable for Numbers {
             return Err(Refusal::BadBuffer);
         }
         let mut at = 0;
-        for i in 0..self.grid.count {
+        for i in 0..self.variable_count() {
             let Some(end) = theory::put_item(out, at, self.grid.value(i, code)) else {
                 unreachable()
             };

@@ -1,15 +1,16 @@
-/// When a term reads its variable: at the visit, at its strong next or at its weak next.
-#[derive(Clone, Copy, PartialEq, Eq, Debug, Default, Drop)]
+/// When a term reads its variable: at the visit, at its weak next or at its strong next, the stronger the later.
+#[derive(Clone, Copy, PartialEq, Eq, PartialOrd, Ord, Debug, Default, Drop)]
 pub enum Moment {
     #[default]
     Now,
-    Next,
     WeakNext,
+    Next,
 }
 
 /// How an atom compares its sum with its constant.
-#[derive(Clone, Copy, PartialEq, Eq, Debug, Drop)]
+#[derive(Clone, Copy, PartialEq, Eq, Debug, Default, Drop)]
 pub enum Comparison {
+    #[default]
     Equal,
     Less,
     AtMost,

@@ -1,7 +1,7 @@
 // The values of variables, terms and sums at a code.
-ghost use Rattle.std.specs.Prelude.{◌≡◌, ◌<◌, true, take, pos, negsuc, ◌≤ℤ◌};
+ghost use Rattle.std.specs.Prelude.{◌≡◌, ◌<◌, ◌≤◌, true, length, pos, negsuc, ◌≤ℤ◌};
 ghost use Rattle.numbers.specs.Kept.{grid_value, read_at, amount_of, kept_sum, kept_holds};
-ghost use Rattle.numbers.specs.Limits.{within, term_fits};
+ghost use Rattle.numbers.specs.Limits.{within, term_fits, terms_fit};
 ghost use Rattle.numbers.specs.Values.{compared};
 
 use super::atom::Atom;
@@ -12,13 +12,12 @@ use theory::Next;
 impl Grid {
     /// The value of a variable in a code.
     pub(crate) fn value(&self, variable: u8, code: u16) -> i32
-        requires { variable < 8 }
+        requires { variable < length self.now.variables.items }
         ensures is { result ≡ grid_value self.now variable code }
         ensures bounds { within 10000 result ≡ true }
     {
-        let read = self.variables[variable as usize];
-        let span = self.spans[variable as usize];
-        read.low + (code / span % read.width) as i32
+        let read = &self.variables[variable as usize];
+        read.variable.low + (code / read.span % read.variable.width) as i32
     }
 }
 
@@ -37,7 +36,7 @@ impl Moment {
 impl Term {
     /// The coefficient times the variable's value, where `next` comes next.
     fn amount(self, grid: &Grid, code: u16, next: u16) -> i32
-        requires { term_fits 8 self ≡ true }
+        requires { term_fits (length grid.now.variables.items) self ≡ true }
         ensures is { result ≡ amount_of grid.now code next self }
         ensures bounds { (negsuc 9999999 ≤ℤ result) × (result ≤ℤ pos 10000000) }
     {
@@ -61,17 +60,21 @@ impl Comparison {
 impl Atom {
     /// The sum of the terms, where `next` comes next.
     fn sum(&self, grid: &Grid, code: u16, next: u16) -> i32
-        ensures { result ≡ kept_sum grid.now code next (take self.now.count self.now.terms) }
+        requires few { length self.now.terms.items ≤ 4 }
+        requires fit { terms_fit (length grid.now.variables.items) self.now.terms.items ≡ true }
+        ensures { result ≡ kept_sum grid.now code next self.now.terms.items }
     {
         let mut sum = 0;
-        for i in 0..self.count as usize {
-            sum += self.terms[i].amount(grid, code, next);
+        for term in self.terms.as_slice() {
+            sum += term.amount(grid, code, next);
         }
         sum
     }
 
     /// Whether the atom holds at `code` when `next` comes next.
     pub(crate) fn holds(&self, grid: &Grid, code: u16, next: Next) -> bool
+        requires few { length self.now.terms.items ≤ 4 }
+        requires fit { terms_fit (length grid.now.variables.items) self.now.terms.items ≡ true }
         ensures { result ≡ kept_holds grid.now code next self.now }
     {
         let read = match next {

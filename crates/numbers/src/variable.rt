@@ -14,3 +14,10 @@ pub(crate) struct Variable {
     ghost some: { 1 ≤ width },
     ghost few: { width ≤ 4096 },
 }
+
+/// A variable of a grid, and its span: how many value combinations the later variables have.
+#[derive(Clone, Copy, Default, Drop)]
+pub(crate) struct Spanned {
+    pub(crate) variable: Variable,
+    pub(crate) span: u16,
+}

@@ -1,18 +1,22 @@
-use Rattle.std.proofs.Common.{◌≡◌, ◌/◌, ◌<◌, true, length, get_or, ℤ, sym, ◌∙◌, subst, arith}
-use Rattle.numbers.specs.Limits.{within}
-use Rattle.numbers.proofs.Bounds.{value_is, value_within}
+use Rattle.std.proofs.Common.{◌≡◌, ◌/◌, ◌%◌, get_or, pos, ◌+ℤ◌, sym, ap, ◌∙◌, arith}
+use Rattle.numbers.specs.declared.variable.Spanned.{Spanned}
+use Rattle.numbers.proofs.Bounds.{value_is}
+use Rattle.numbers.proofs.Grids.{span_ahead}
 use Rattle.numbers.proofs.Sums.{kept_at}
 use Rattle.numbers.proofs.grid.Grid.value.Goals as goal
 
-pub returns : goal.returns
-returns c =
+pub nonzero_div-result : goal.nonzero_div-result
+nonzero_div-result c =
     let g = c.args.self.now in
-    let i = c.args.variable in
-    let span = get_or g.spans i 0 in
-    let v = get_or g.variables i c.index-self-variable.result in
-    let place = c.args.code / span in
-    let room : i < length g.variables = omega arith in
-    record {
-      is = value_is v place ∙ sym (kept_at g.variables span i c.args.code c.index-self-variable.result room);
-      bounds = subst (λ (z : ℤ). within 10000 z ≡ true) (sym (value_is v place)) (value_within v place);
-    }
+    let v = c.index-deref-variable.result in
+    let is : v ≡ get_or g.variables.items c.args.variable v = c.index-deref-variable.is ∙ ap (λ vs. get_or vs c.args.variable v) c.deref.ensures.0 in
+    omega (arith, ap (λ (u : Spanned). u.span) is, span_ahead g.variables.items c.args.variable v c.requires g.spanned)
+
+pub returns-clause-is : goal.returns-clause-is
+returns-clause-is c =
+    let g = c.args.self.now in
+    let v = c.index-deref-variable.result in
+    let is : v ≡ get_or g.variables.items c.args.variable v = c.index-deref-variable.is ∙ ap (λ vs. get_or vs c.args.variable v) c.deref.ensures.0 in
+    value_is v.variable (c.args.code / v.span)
+    ∙ ap (λ (u : Spanned). u.variable.low +ℤ pos (c.args.code / u.span % u.variable.width)) is
+    ∙ sym (kept_at g.variables.items c.args.variable c.args.code v c.requires)
