@@ -1,5 +1,5 @@
 -- Names that are found and added.
-use Rattle.std.proofs.Common.{◌≡◌, ℕ, zero, suc, ◌+◌, ◌^◌, ◌<◌, ◌≤◌, Bool, true, false, cond, not, ltb, List, [], ◌∷◌, map, length, get_or, replicate, min, is_some, Some, None, Option, sym, refl, ap, ◌∙◌, subst, arith}
+use Rattle.std.proofs.Common.{◌≡◌, ℕ, zero, suc, ◌+◌, ◌^◌, ◌<◌, ◌≤◌, Bool, true, false, cond, not, ltb, List, [], ◌∷◌, map, length, get_or, replicate, min, is_some, Some, None, Ok, Err, Option, Result, sym, refl, ap, ◌∙◌, subst, arith}
 use Rattle.std.proofs.lemmas.List.{length-map, map_push, get_or-map}
 use Rattle.std.proofs.lemmas.Bool.{cond-true, cond-false, and_from, and_left, and_right}
 use Rattle.std.proofs.lemmas.Bool.Decides.{nat_tests}
@@ -8,10 +8,11 @@ use Rattle.intern.proofs.Growth.{indexed_one}
 use Rattle.intern.proofs.Index.{to_index, indexed_none}
 use Rattle.intern.proofs.Indexes.{false_from, items_apart}
 use Rattle.intern.proofs.Places.{length_items, place_map}
-use Rattle.intern.proofs.Slots.{slot_found, slot_added, slot_full, slot_broken, place_below}
+use Rattle.intern.proofs.Slots.{slot_found, slot_added, slot_refused, place_below}
 use Rattle.intern.specs.declared.cell.Cell.{Cell}
 use Rattle.intern.specs.declared.Slot.{Slot}
-use Rattle.intern.specs.declared.Slot.TheVariants.{Found, Added, Full, Broken}
+use Rattle.intern.specs.declared.Slot.TheVariants.{Found, Added}
+use Rattle.intern.specs.declared.EntryError.{EntryError}
 use Rattle.intern.specs.Entry.{room}
 use Rattle.intern.specs.Index.{Indexed, items, place, further}
 use Rattle.intern.specs.Links.{leaf}
@@ -116,25 +117,20 @@ module _ {N : ℕ} (r : Roster N) where
     refuses : may_add N (texts r) (text_of name) ≡ false → items after r.count ≡ roster_names → Refused
     refuses e same = (sym (cond-false _ _ _ e), ap (map text_of) same ∙ sym (cond-false _ _ _ e))
 
-    taken : (k : ℕ) → Settled same_text name_turn r.cells r.count name (Found k) after → Refused
+    -- where the name stood already
+    pub taken : (k : ℕ) → Settled same_text name_turn r.cells r.count name (Ok (Found k)) after → Refused
     taken k s =
         let there : place bytes_eq (text_of name) (texts r) ≡ Some k = sym (place_is name) ∙ slot_found _ k r.count _ s.slot_is in
         refuses (and_left (not (is_some (place bytes_eq (text_of name) (texts r)))) _ (ap (λ (o : Option ℕ). not (is_some o)) there)) s.items_are
 
-    crowded : Settled same_text name_turn r.cells r.count name Full after → Refused
-    crowded s =
-        let no_room : room (length (texts r)) N ≡ false = ap (λ k. room k N) texts_length ∙ ap (room r.count) (sym r.whole) ∙ (slot_full _ r.count _ s.slot_is).1 in
+    -- where no room was left
+    pub crowded : (why : EntryError) → Settled same_text name_turn r.cells r.count name (Err why) after → Refused
+    crowded why s =
+        let no_room : room (length (texts r)) N ≡ false = ap (λ k. room k N) texts_length ∙ ap (room r.count) (sym r.whole) ∙ (slot_refused _ why r.count _ s.slot_is).1 in
         refuses (and_right (not (is_some (place bytes_eq (text_of name) (texts r)))) _ no_room) s.items_are
 
-    -- where no name was added
-    pub refused : (s : Slot) → ((k : ℕ) → s ≡ Added k → ⊥) → Settled same_text name_turn r.cells r.count name s after → Refused
-    refused (Found k) never st = taken k st
-    refused (Added k) never st = absurd (never k refl)
-    refused Full never st = crowded st
-    refused Broken never st = absurd (slot_broken _ r.count _ st.slot_is)
-
-    -- where one was
-    pub entered : (k : ℕ) → Settled same_text name_turn r.cells r.count name (Added k) after
+    -- where it was added
+    pub entered : (k : ℕ) → Settled same_text name_turn r.cells r.count name (Ok (Added k)) after
         → (Some k ≡ number_added N (texts r) (text_of name)) × (map text_of (items after (r.count + 1)) ≡ texts_added N (texts r) (text_of name))
     entered k s =
         let p = slot_added _ k r.count _ s.slot_is in

@@ -52,10 +52,12 @@ impl<const N: usize> Roster<N> {
         ensures answer { result ≡ number_added N (texts self.old) (text_of name) }
         ensures after { texts self.new ≡ texts_added N (texts self.old) (text_of name) }
     {
-        let Ok(Slot::Added(number)) = find_or_add(&mut self.cells, self.count, name) else {
-            return None;
-        };
-        self.count += 1;
-        Some(number)
+        match find_or_add(&mut self.cells, self.count, name).ok()? {
+            Slot::Found(_) => None,
+            Slot::Added(number) => {
+                self.count += 1;
+                Some(number)
+            }
+        }
     }
 }
