@@ -1,5 +1,5 @@
 // Formulas of LTL over finite traces, the draft that takes them and the book that a draft is sealed into.
-// Rests on `refusal` and `intern`.
+// Rests on `refusal` and `intern`, and on `arrayvec` of the kit.
 // Promises: each call leaves what the definitions of specs/ say, for every argument; a book is always proper.
 #![tactic(auto)]
 
