@@ -1,5 +1,5 @@
 -- Lines of rules, read one after the other, and the book that they leave.
-use Rattle.std.proofs.Common.{◌≡◌, ℕ, ◌+◌, ◌<◌, ◌≤◌, true, false, not, eqb, ltb, ◌⊎◌, List, [], ◌∷◌, ◌++◌, map, length, Some, None, Ok, Err, Option, Result, sym, refl, ap, ◌∙◌, subst, inl, inr, ⊎_elim, append-nil, arith}
+use Rattle.std.proofs.Common.{◌≡◌, ℕ, ◌+◌, ◌<◌, ◌≤◌, true, false, not, eqb, ltb, ◌⊎◌, List, [], ◌∷◌, ◌++◌, map, length, Some, None, Ok, Err, Option, Result, sym, refl, ap, ◌∙◌, subst, inl, inr, ⊎_elim, append-nil}
 use Rattle.std.proofs.lemmas.Bool.{cond-true, cond-false, cases_Bool, eqb-true, and_from, and_right, not_from_true, not_from_false, false≢true}
 use Rattle.refusal.specs.declared.Refusal.{Refusal}
 use Rattle.refusal.specs.declared.Refusal.TheVariants.{Unknown}
@@ -23,7 +23,7 @@ use Rattle.rule_meaning.proofs.Properness.{rule_proper}
 use Rattle.rule_meaning.proofs.Saying.{stands_says, read_says}
 
 never_some : {A P : Type 0} (a : A) → ◌≡◌ {A = Option A} None (Some a) → P
-never_some a e = let z : ◌≡◌ {A = ℕ} 0 1 = cc in absurd (omega arith)
+never_some a e = cc
 
 -- what stands behind a word
 behind_word : (word text rest : List ℕ) → behind word text ≡ Some rest → text ≡ word ++ rest
@@ -156,7 +156,7 @@ module _ (b after : Contents) (line text : List ℕ) (is : line ≡ 114 ∷ 32 �
       let leaves : rule_leaves c k ≡ after = cc in
       let put : ltb k (length c.nodes) ≡ true = ⊎_elim
       (λ t. t)
-      (λ f. let w : ◌≡◌ {A = Result (Unit {0}) Refusal} (Err Unknown) (Ok u) = sym (cond-false (ltb k (length c.nodes)) (Ok tt) (Err Unknown) f) ∙ answer in let z : ◌≡◌ {A = ℕ} 0 1 = cc in absurd (omega arith))
+      (λ f. let w : ◌≡◌ {A = Result (Unit {0}) Refusal} (Err Unknown) (Ok u) = sym (cond-false (ltb k (length c.nodes)) (Ok tt) (Err Unknown) f) ∙ answer in cc)
       (cases_Bool (ltb k (length c.nodes))) in
       record {
         rule = a.formula;
@@ -195,7 +195,7 @@ lines_added place (l ∷ ls) b after e = go (λ c. lines_added (place + length l
     go : ((c : Contents) → lines_read rule_read (place + length l + 1) ls c ≡ Ok after → Lines ls c after) → (o : Option Contents) → rule_read b l ≡ o → Lines (l ∷ ls) b after
     go later None is =
         let z : ◌≡◌ {A = Result Contents ℕ} (Err place) (Ok after) = ap (λ o. go_on place o (λ s. lines_read rule_read (place + length l + 1) ls s)) (sym is) ∙ e in
-        let never : ◌≡◌ {A = ℕ} 0 1 = cc in absurd (omega arith)
+        cc
     go later (Some c) is =
         let one = line_read b c l is in
         let more = later c (ap (λ o. go_on place o (λ s. lines_read rule_read (place + length l + 1) ls s)) (sym is) ∙ e) in

@@ -1,5 +1,5 @@
 -- The rules of an accepted sheet.
-use Rattle.std.proofs.Common.{◌≡◌, ℕ, ◌-◌, ◌^◌, List, [], ◌∷◌, map, length, take, drop, Some, None, Ok, Err, Option, Result, refl, arith}
+use Rattle.std.proofs.Common.{◌≡◌, ℕ, ◌-◌, List, [], ◌∷◌, map, take, drop, Some, None, Ok, Err, Option, Result, refl}
 use Rattle.std.proofs.lemmas.Bool.{cond_both}
 use Rattle.refusal.specs.declared.SheetRefusal.{SheetRefusal}
 use Rattle.refusal.specs.declared.SheetRefusal.TheVariants.{Bytes, Trailer, Opening, Rule, Note}
@@ -22,7 +22,7 @@ use Rattle.rule_meaning.proofs.Properness.{proper_counted, no_rules}
 use Rattle.rule_meaning.proofs.Rulebooks.{lines_added, book_says}
 
 never_refused : {P : Type 0} (e : SheetRefusal) (s : Sheet) → ◌≡◌ {A = Result Sheet SheetRefusal} (Err e) (Ok s) → P
-never_refused e s is = let z : ◌≡◌ {A = ℕ} 0 1 = cc in absurd (omega arith)
+never_refused e s is = cc
 
 module _ (bytes visits : List ℕ) (s : Sheet) where
   -- what is left after an accepted sheet says what its rules say
@@ -66,8 +66,8 @@ line_once v w below-v below-w e = let same : write v ≡ write w = cc in written
 
 pub rules_once : RulesWrittenOnce
 rules_once [] [] rv rw e = refl
-rules_once [] (w ∷ ws) rv rw e = let z : ◌≡◌ {A = ℕ} 0 1 = cc in absurd (omega arith)
-rules_once (v ∷ vs) [] rv rw e = let z : ◌≡◌ {A = ℕ} 0 1 = cc in absurd (omega arith)
+rules_once [] (w ∷ ws) rv rw e = cc
+rules_once (v ∷ vs) [] rv rw e = cc
 rules_once (v ∷ vs) (w ∷ ws) rv rw e =
     let first : rule_line v ≡ rule_line w = cc in
     let rest : map rule_line vs ≡ map rule_line ws = cc in

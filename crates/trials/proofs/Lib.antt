@@ -1,3 +1,4 @@
 mod Noting
 mod Asking
 mod Coming
+pub mod Outcomes

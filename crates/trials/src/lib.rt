@@ -13,24 +13,26 @@ pub fn trials_come_out()
     ensures { TrialsComeOut }
 {}
 
+// What stands beside the sheets.
+const OUTCOMES: [Outcome; 13] = [
+    Outcome::Short { rows: 4 },
+    Outcome::Can { length: 3, rows: 5 },
+    Outcome::Can { length: 3, rows: 3 },
+    Outcome::Cannot { rows: 1 },
+    Outcome::Cannot { rows: 1 },
+    Outcome::Can { length: 3, rows: 3 },
+    Outcome::Can { length: 2, rows: 4 },
+    Outcome::Can { length: 1, rows: 2 },
+    Outcome::Cannot { rows: 4 },
+    Outcome::Cannot { rows: 4 },
+    Outcome::Can { length: 1, rows: 3 },
+    Outcome::Cannot { rows: 3 },
+    Outcome::Can { length: 1, rows: 3 },
+];
+
 /// What stands beside a sheet, by its number in the list, counted from 0; nothing past the list.
 pub fn outcome_of(sheet: usize) -> Option<Outcome>
     ensures { result ≡ outcome_at trials sheet }
 {
-    match sheet {
-        0 => Some(Outcome::Short { rows: 4 }),
-        1 => Some(Outcome::Can { length: 3, rows: 5 }),
-        2 => Some(Outcome::Can { length: 3, rows: 3 }),
-        3 => Some(Outcome::Cannot { rows: 1 }),
-        4 => Some(Outcome::Cannot { rows: 1 }),
-        5 => Some(Outcome::Can { length: 3, rows: 3 }),
-        6 => Some(Outcome::Can { length: 2, rows: 4 }),
-        7 => Some(Outcome::Can { length: 1, rows: 2 }),
-        8 => Some(Outcome::Cannot { rows: 4 }),
-        9 => Some(Outcome::Cannot { rows: 4 }),
-        10 => Some(Outcome::Can { length: 1, rows: 3 }),
-        11 => Some(Outcome::Cannot { rows: 3 }),
-        12 => Some(Outcome::Can { length: 1, rows: 3 }),
-        _ => None,
-    }
+    OUTCOMES.get(sheet).copied()
 }
