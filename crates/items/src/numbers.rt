@@ -14,7 +14,7 @@ fn digits(text: &[u8], limit: u32) -> Option<Read<u32>>
     let mut rest = text;
     while let [byte @ b'0'..=b'9', after @ ..] = rest {
         value = value * 10 + u64::from(*byte - b'0');
-        if value > limit as u64 {
+        if value > u64::from(limit) {
             return None;
         }
         rest = after;

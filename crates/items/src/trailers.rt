@@ -27,16 +27,18 @@ fn read_trailer(line: &[u8]) -> Option<Trailer>
     })
 }
 
-/// Whether rules and notes begin at starts of lines, in order and not past `own`.
-fn points_back_from(sheet: &[u8], own: usize, rules: usize, notes: usize) -> bool
-    requires { own < length sheet.now }
-    ensures { result ≡ points_back sheet.now own rules notes }
-{
-    1 <= rules
-        && rules <= notes
-        && notes <= own
-        && sheet[rules - 1] == b'\n'
-        && sheet[notes - 1] == b'\n'
+impl Trailer {
+    /// Whether rules and notes begin at starts of lines, in order and not past `own`.
+    fn points_back(self, sheet: &[u8], own: usize) -> bool
+        requires { own < length sheet.now }
+        ensures { result ≡ points_back sheet.now own self.rules self.notes }
+    {
+        1 <= self.rules
+            && self.rules <= self.notes
+            && self.notes <= own
+            && sheet[self.rules - 1] == b'\n'
+            && sheet[self.notes - 1] == b'\n'
+    }
 }
 
 /// The trailer that stands at `own`, if it points back to starts of lines.
@@ -44,12 +46,7 @@ fn trailer_from(sheet: &[u8], own: usize) -> Option<Trailer>
     requires { own < length sheet.now }
     ensures { trailer_seen result ≡ trailer_at sheet.now own }
 {
-    read_trailer(&sheet[own..sheet.len() - 1]).filter(|found| points_back_from(
-        sheet,
-        own,
-        found.rules,
-        found.notes,
-    ))
+    read_trailer(&sheet[own..sheet.len() - 1]).filter(|trailer| trailer.points_back(sheet, own))
 }
 
 /// The trailer of a sheet, if it points back to starts of lines.

@@ -47,6 +47,7 @@ pub fn read_values(numbers: &Numbers, text: &[u8]) -> Option<u16>
         value: 0,
         rest: text,
     };
+    // By number: the theory lends no slice of its variables.
     for number in 0..numbers.variable_count() {
         let (low, high) = numbers.variable_bounds(number)?;
         code = read_value(low, high, code)?;
