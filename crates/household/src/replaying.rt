@@ -60,7 +60,7 @@ fn ask<T: Theory, O: Observer>(
 /// One call of the draw.
 // What is lent stays a parameter each: a struct of `&mut` would be taken apart again for every call, and its clauses name each part.
 fn step<T: Theory, O: Observer>(
-    mut record: Record,
+    record: Record,
     call: &Call<T>,
     visits: &mut [u16],
     rows: &mut [Cell<Row>],
@@ -71,6 +71,7 @@ fn step<T: Theory, O: Observer>(
     requires codes { all_codes (record_model «record»).codes (take (record_model «record»).kept visits.old) ≡ true }
     ensures { Stepped O.Observer.hears (record_model «record»).codes (record_model «record»).atoms (take (record_model «record»).kept visits.old) (drawn T.Theory.meaning (length rows.old) (length history.old) call.now) (length visits.old) (record_model result) visits.new observer.old observer.new }
 {
+    let mut record = record;
     match call {
         Call::Sync { notes, confirmed } => play_sync(record, visits, *notes, *confirmed, observer),
         Call::Strike => {
