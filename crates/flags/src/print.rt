@@ -4,35 +4,34 @@ ghost use Rattle.flags.specs.Model.{flags_of};
 
 use super::flags::Flags;
 use refusal::Refusal;
-use theory::{Printable, Theory};
+use theory::{Printable, Theory, print_values};
 
-// A print buffer holds the bits of every code.
-const PRINT_ROOM: usize = 64;
+/// The bits of a code of as many flags as there can be, bit 0 first.
+fn bits_of(code: u16) -> [i32; 12]
+    ensures { result ≡ bits_below 12 code }
+{
+    let mut bits = [0; 12];
+    for (place, bit) in bits.iter_mut().enumerate() {
+        *bit = i32::from((code >> place) % 2);
+    }
+    bits
+}
 
 impl Printable for Flags {
     ghost values = { λ t code. bits_below (length (flags_of t).names) code };
 
     fn print(&self, code: u16, out: &mut [u8]) -> Result<usize, Refusal> {
-        if code >= self.code_count() {
-            return Err(Refusal::NoSuchCode);
-        }
-        if out.len() < PRINT_ROOM {
-            return Err(Refusal::BadBuffer);
-        }
-        let mut at = 0;
-        for i in 0..self.flag_count() {
-            let Some(end) = theory::put_item(out, at, ((code >> i) % 2) as i32) else {
-                unreachable()
-            };
-            at = end;
-        }
-        Ok(at)
+        let bits = bits_of(code);
+        print_values(
+            self.code_count(),
+            code,
+            &bits[..usize::from(self.count)],
+            out,
+        )
     }
 }
 
 /// States that the bits of a code tell the code.
-pub fn bits_tell_codes() -> bool
+pub fn bits_tell_codes()
     ensures { BitsTellCodes }
-{
-    true
-}
+{}

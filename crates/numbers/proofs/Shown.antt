@@ -1,23 +1,25 @@
--- Values printed one after another, and the code that they tell.
-use Rattle.std.proofs.Common.{◌≡◌, ℕ, zero, suc, ◌+◌, ◌*◌, ◌/◌, ◌%◌, ◌^◌, ◌<◌, ◌≤◌, true, List, [], ◌∷◌, ◌++◌, length, get_or, take, ℤ, pos, negsuc, ◌+ℤ◌, ◌-ℤ◌, nat_abs, Some, sym, refl, ap, ◌∙◌, subst, ap₂, le_of_suc-le-suc, mod-eq_of_lt, arith, w32, to_z, of_z}
+-- Values as they are printed, and the code that they tell.
+use Rattle.std.proofs.Common.{◌≡◌, ℕ, zero, suc, ◌+◌, ◌*◌, ◌/◌, ◌%◌, ◌^◌, ◌<◌, ◌≤◌, true, List, [], ◌∷◌, ◌++◌, length, get_or, take, ℤ, pos, negsuc, ◌+ℤ◌, ◌-ℤ◌, nat_abs, map, sym, refl, ap, ◌∙◌, ap₂, le_of_suc-le-suc, mod-eq_of_lt, add-one, arith, length-append}
 use lib.Arith.{mod-mul}
 use lib.Signed.{mag}
 use Rattle.std.proofs.lemmas.Nat.{mul-le}
 use Rattle.std.proofs.lemmas.List.{take_more}
+use Rattle.std.proofs.lemmas.List.FromFn.{take-map-range_with_len, fill_by_all}
+use Rattle.std.specs.List.{range_with_len}
 use Rattle.std.proofs.lemmas.Int.{ints}
-use Rattle.theory.proofs.Texts.{item_short, print_more}
+use Rattle.theory.proofs.Texts.{item_short, spaced_push}
 use Rattle.theory.specs.Print.{item, spaced}
-use Rattle.writer.specs.Puts.{put_at, put_answer, put_leaves}
-use Rattle.names.specs.Rosters.{texts}
 use Rattle.numbers.specs.declared.numbers.Numbers.{Numbers}
 use Rattle.numbers.specs.Codes.{all_values, code_of, ValuesTellCodes}
 use Rattle.numbers.specs.Kept.{grid_value}
 use Rattle.numbers.specs.Limits.{within, value_count}
 use Rattle.numbers.specs.Model.{numbers_of}
 use Rattle.numbers.specs.Values.{VariableModel, combinations, value}
-use Rattle.numbers.proofs.Bounds.{within_bounds, passed}
+use Rattle.numbers.specs.Variables.{texts}
+use Rattle.numbers.proofs.Bounds.{within_bounds}
 use Rattle.numbers.proofs.Means.{value_is}
 use Rattle.numbers.proofs.Readings.{count_variables}
+use Rattle.numbers.proofs.Rosters.{texts_length}
 
 some_combination : (vs : List VariableModel) → 0 < combinations vs
 some_combination [] = omega arith
@@ -52,35 +54,30 @@ small (pos n) h = let b = within_bounds 10000 (pos n) h in omega (arith, ints)
 small (negsuc n) h = let b = within_bounds 10000 (negsuc n) h in omega (arith, ints)
 
 -- a value takes at most seven bytes
-pub value_short : (at : ℕ) (z : ℤ) → within 10000 z ≡ true → length (item at (to_z w32 (of_z w32 z))) ≤ 7
-value_short at z h =
-    let s = small z h in
-    subst (λ (x : ℤ). length (item at x) ≤ 7) (sym (passed z h)) (item_short at z 5 s (omega arith))
+value_short : (at : ℕ) (z : ℤ) → within 10000 z ≡ true → length (item at z) ≤ 7
+value_short at z h = let s = small z h in item_short at z 5 s (omega arith)
 
-module _ (t : Numbers) (code : ℕ) where
-  abbrev values : List ℤ
-  values = all_values (numbers_of t).variables code
+pub values_short : (zs : List ℤ) → ((k : ℕ) → k < length zs → within 10000 (get_or zs k (pos 0)) ≡ true)
+    → (i : ℕ) → i ≤ length zs → length (spaced (take i zs)) ≤ 7 * i
+values_short zs small zero h = omega arith
+values_short zs small (suc i) h =
+    let z = get_or zs i (pos 0) in
+    let text = spaced (take i zs) in
+    let more : take (suc i) zs ≡ take i zs ++ z ∷ [] = ap (λ n. take n zs) (sym (add-one i)) ∙ take_more zs i (pos 0) (omega arith) in
+    omega (
+      arith,
+      values_short zs small i (omega arith),
+      value_short (length text) z (small i (omega arith)),
+      ap (λ (xs : List ℤ). length (spaced xs)) more,
+      ap length (spaced_push (take i zs) z),
+      length-append text (item (length text) z),
+    )
 
-  pub values_count : length values ≡ length t.grid.variables.items
-  values_count = values_length (numbers_of t).variables code ∙ count_variables t
-
-  more_values : (i : ℕ) → i < length t.grid.variables.items → take (i + 1) values ≡ take i values ++ grid_value t.grid i code ∷ []
-  more_values i h =
-      take_more values i (pos 0) (omega (arith, values_count))
-      ∙ ap (λ (z : ℤ). take i values ++ z ∷ [])
-      (values_at (numbers_of t).variables i code (omega (arith, count_variables t)) ∙ value_is (texts t.names) t.grid t.paired i code h)
-
-  -- one value more
-  pub values_more : (bytes : List ℕ) (i : ℕ) (x : ℤ) (at e : ℕ) (out after : List ℕ) → i < length t.grid.variables.items → x ≡ grid_value t.grid i code → within 10000 x ≡ true
-      → at ≡ length (spaced (take i values)) → out ≡ put_at bytes 0 (spaced (take i values)) → at ≤ 7 * i
-      → Some e ≡ put_answer (length out) at (item at (to_z w32 (of_z w32 x))) → after ≡ put_leaves out at (item at (to_z w32 (of_z w32 x)))
-      → e ≡ at + length (item at (to_z w32 (of_z w32 x)))
-      → (e ≡ length (spaced (take (i + 1) values))) × (after ≡ put_at bytes 0 (spaced (take (i + 1) values))) × (e ≤ 7 * (i + 1))
-  values_more bytes i x at e out after lt is bounded is_at is-out le some is-after place =
-      let step = print_more bytes (take i values) (to_z w32 (of_z w32 x)) at e out after is_at is-out some is-after in
-      let all : take i values ++ to_z w32 (of_z w32 x) ∷ [] ≡ take (i + 1) values =
-      ap (λ (z : ℤ). take i values ++ z ∷ []) (passed x bounded ∙ is) ∙ sym (more_values i lt) in (
-        step.0 ∙ ap (λ (zs : List ℤ). length (spaced zs)) all,
-        step.1 ∙ ap (λ (zs : List ℤ). put_at bytes 0 (spaced zs)) all,
-        omega (arith, value_short at x bounded),
-      )
+-- the values at the places that are variables are all values of a code
+pub first_values : (t : Numbers) (code : ℕ) → take t.grid.count (map (λ i. grid_value t.grid i code) (range_with_len 0 8)) ≡ all_values (numbers_of t).variables code
+first_values t code =
+    take-map-range_with_len (λ i. grid_value t.grid i code) 0 8 t.grid.count (omega (arith, t.grid.few))
+    ∙ sym (fill_by_all (λ i. grid_value t.grid i code) (all_values (numbers_of t).variables code) t.grid.count (pos 0)
+    (values_length (numbers_of t).variables code ∙ count_variables t)
+    (λ k h. values_at (numbers_of t).variables k code (omega (arith, count_variables t))
+    ∙ value_is (texts t.names) t.grid (texts_length t.names ∙ t.paired) k code h))

@@ -1,24 +1,15 @@
 -- One value more of a printed text.
-use Rattle.std.proofs.Common.{◌≡◌, ℕ, ◌+◌, ◌^◌, ◌<◌, ◌≤◌, Bool, true, false, cond, eqb, List, [], ◌∷◌, ◌++◌, length, ℤ, Some, None, sym, ap, ◌∙◌, ap₂, arith, length-append, w32, SFits, to_z, of_z}
+use Rattle.std.proofs.Common.{◌≡◌, ℕ, ◌+◌, ◌^◌, ◌<◌, ◌≤◌, Bool, true, false, cond, eqb, List, [], ◌∷◌, ◌++◌, length, get_or, take, drop, fold, ℤ, pos, Some, take-append-drop, sym, ap, ◌∙◌, ap₂, arith, length-append, w32, SFits, to_z, of_z}
 use lib.Signed.{mag}
 use Rattle.std.proofs.lemmas.Fmt.{length_signed_le}
 use Rattle.std.proofs.lemmas.Int.{to_z-of_z}
-use Rattle.std.proofs.lemmas.List.Sums.{fold_push}
-use Rattle.std.proofs.lemmas.Bool.{eq-eqb, ne_eqb}
+use Rattle.std.proofs.lemmas.List.{take_more}
+use Rattle.std.proofs.lemmas.List.Sums.{fold_push, fold-append}
 use Rattle.std.specs.Fmt.{signed_decimal}
-use Rattle.writer.proofs.Firsts.{room_for, no_room_for}
+use Rattle.writer.proofs.Firsts.{room_for}
 use Rattle.writer.proofs.Puts.{fit_leaves, put_put}
 use Rattle.writer.specs.Puts.{put_at, put_answer, put_leaves}
 use Rattle.theory.specs.Print.{item, spaced}
-
--- the first value, and a later one, as the code passes them
-pub item_first : (at : ℕ) (z : ℤ) → SFits w32 z → at ≡ 0 → signed_decimal (to_z w32 (of_z w32 z)) ≡ item at z
-item_first at z z-fits first =
-    ap signed_decimal (to_z-of_z w32 z z-fits) ∙ sym (ap (λ b. cond b (signed_decimal z) (32 ∷ signed_decimal z)) (eq-eqb at 0 first))
-
-pub item_later : (at : ℕ) (z : ℤ) → SFits w32 z → (at ≡ 0 → ⊥) → item at z ≡ 32 ∷ signed_decimal (to_z w32 (of_z w32 z))
-item_later at z z-fits later =
-    ap (λ b. cond b (signed_decimal z) (32 ∷ signed_decimal z)) (ne_eqb at 0 later) ∙ ap (λ x. 32 ∷ signed_decimal x) (sym (to_z-of_z w32 z z-fits))
 
 -- a value takes at most its digits, a sign and a space
 item_by : (first : Bool) (z : ℤ) (k : ℕ) → length (signed_decimal z) ≤ k → length (cond first (signed_decimal z) (32 ∷ signed_decimal z)) ≤ k + 1
@@ -47,6 +38,40 @@ print_more bytes zs z at e out after is_at is-out some is-after =
           ∙ ap (put_at bytes 0) (sym (spaced_push zs z)),
     )
 
--- a value for which there is room is not refused
-pub never_full : (room at : ℕ) (z : ℤ) → None ≡ put_answer room at (item at z) → at + length (item at z) ≤ room → ⊥
-never_full room at z none fit = omega (arith, no_room_for room at (item at z) none)
+-- a text only grows with its values
+grows_by : (ys : List ℤ) (text : List ℕ) → length text ≤ length (fold (λ text z. text ++ item (length text) z) text ys)
+grows_by [] text = omega arith
+grows_by (y ∷ ys) text = omega (arith, grows_by ys (text ++ item (length text) y), length-append text (item (length text) y))
+
+-- so a value more fits where all of them do
+pub step_fits : (values : List ℤ) (i : ℕ) → i < length values
+    → length (spaced (take i values)) + length (item (length (spaced (take i values))) (get_or values i (pos 0))) ≤ length (spaced values)
+step_fits values i h =
+    let front = take i values in
+    let z = get_or values i (pos 0) in
+    let text = spaced front in
+    let more : spaced (take (i + 1) values) ≡ text ++ item (length text) z = ap spaced (take_more values i (pos 0) h) ∙ spaced_push front z in
+    let all : fold (λ text z. text ++ item (length text) z) (spaced (take (i + 1) values)) (drop (i + 1) values) ≡ spaced values =
+    sym (fold-append (λ text z. text ++ item (length text) z) [] (take (i + 1) values) (drop (i + 1) values)) ∙ ap spaced (take-append-drop (i + 1) values) in
+    omega (arith, grows_by (drop (i + 1) values) (spaced (take (i + 1) values)), ap length all, ap length more, length-append text (item (length text) z))
+
+-- the step of a `print`: the value at a place, as the code passes it
+module _ (bytes : List ℕ) (values : List ℤ) (i : ℕ) (x : ℤ) (at : ℕ) (out : List ℕ) (here : i < length values) (z-fits : SFits w32 x)
+    (is : x ≡ get_or values i (pos 0)) (is_at : at ≡ length (spaced (take i values))) (is-out : out ≡ put_at bytes 0 (spaced (take i values))) where
+  passed : to_z w32 (of_z w32 x) ≡ get_or values i (pos 0)
+  passed = to_z-of_z w32 x z-fits ∙ is
+
+  pub print_fits : length (spaced values) ≤ length out → at + length (item at (to_z w32 (of_z w32 x))) ≤ length out
+  print_fits room =
+      omega (arith, step_fits values i here, ap (λ z. length (item at z)) passed, ap (λ n. n + length (item n (get_or values i (pos 0)))) is_at)
+
+  pub print_step : (e : ℕ) (after : List ℕ) → Some e ≡ put_answer (length out) at (item at (to_z w32 (of_z w32 x)))
+      → after ≡ put_leaves out at (item at (to_z w32 (of_z w32 x)))
+      → (e ≡ length (spaced (take (i + 1) values))) × (after ≡ put_at bytes 0 (spaced (take (i + 1) values)))
+  print_step e after some is-after =
+      let step = print_more bytes (take i values) (to_z w32 (of_z w32 x)) at e out after is_at is-out some is-after in
+      let all : take i values ++ to_z w32 (of_z w32 x) ∷ [] ≡ take (i + 1) values =
+      ap (λ (z : ℤ). take i values ++ z ∷ []) passed ∙ sym (take_more values i (pos 0) here) in (
+        step.0 ∙ ap (λ (zs : List ℤ). length (spaced zs)) all,
+        step.1 ∙ ap (λ (zs : List ℤ). put_at bytes 0 (spaced zs)) all,
+      )

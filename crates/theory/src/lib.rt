@@ -9,7 +9,7 @@ ghost use Rattle.std.specs.Prelude.{◌≡◌};
 ghost use Rattle.theory.specs.Meaning.{within, Meaning, InRange, answer};
 
 pub use next::Next;
-pub use print::{Printable, put_item};
+pub use print::{Printable, print_values, put_item};
 use refusal::Refusal;
 
 /// Codes 0 to M - 1, atoms 0 to A - 1, and the facts: which atom holds at which code before what comes next.

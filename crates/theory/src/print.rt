@@ -1,11 +1,14 @@
 // Printing the values of a code.
-ghost use Rattle.std.specs.Prelude.{◌≡◌, ℕ, List, length, ℤ};
+ghost use Rattle.std.specs.Prelude.{◌≡◌, ℕ, ◌≤◌, List, length, ℤ};
 ghost use Rattle.theory.specs.Print.{item, spaced, print_answer, print_leaves};
 ghost use Rattle.writer.specs.Puts.{put_answer, put_leaves};
 
 use super::Theory;
 use refusal::Refusal;
 use writer::put_number;
+
+/// A print buffer has room for the values of every code.
+const PRINT_ROOM: usize = 64;
 
 /// A theory that can write the values of a code.
 pub trait Printable: Theory {
@@ -35,4 +38,25 @@ pub fn put_item(out: &mut [u8], at: usize, value: i32) -> Option<usize>
     let end = put_number(out, at + 1, value)?;
     out[at] = b' ';
     Some(end)
+}
+
+/// Writes the values of a code, separated by one space, and returns their length: what a `print` does.
+///
+/// Errors: 4 for a code that does not exist, else 9 for a buffer under 64 bytes; nothing is written.
+pub fn print_values(codes: u16, code: u16, values: &[i32], out: &mut [u8]) -> Result<usize, Refusal>
+    requires { length (spaced values.now) ≤ 64 }
+    ensures answer { result ≡ print_answer codes code (length out.old) (spaced values.now) }
+    ensures after { out.new ≡ print_leaves codes code out.old (spaced values.now) }
+{
+    if code >= codes {
+        return Err(Refusal::NoSuchCode);
+    }
+    if out.len() < PRINT_ROOM {
+        return Err(Refusal::BadBuffer);
+    }
+    let mut at = 0;
+    for value in values {
+        at = put_item(out, at, *value).unwrap();
+    }
+    Ok(at)
 }

@@ -1,21 +1,31 @@
-use Rattle.std.proofs.Common.{◌/◌, ◌%◌, ◌^◌, length, arith, w32, to_z}
-use Rattle.theory.proofs.Texts.{never_full}
-use Rattle.theory.specs.Print.{item}
-use Rattle.writer.proofs.Firsts.{room_for}
-use Rattle.names.proofs.Rosters.{texts_few}
-use Rattle.flags.proofs.Shown.{bit_short, bits_more}
+use Rattle.std.proofs.Common.{◌≡◌, ℕ, List, length, take, ℤ, arith, sym, ap, ap₂, ◌∙◌}
+use Rattle.theory.specs.Print.{spaced, print_answer, print_leaves}
+use Rattle.flags.specs.Bits.{bits_below}
+use Rattle.flags.specs.Model.{flags_of}
+use Rattle.flags.specs.Ranges.{count_names}
+use Rattle.flags.specs.declared.flags.Flags.{Flags}
+use Rattle.flags.proofs.Shown.{bits_short, first_bits}
 use Rattle.flags.proofs.print.FlagsPrintable.print.Goals as goal
 
-pub unreachable-requires : goal.unreachable-requires
-unreachable-requires c =
-    let so_far = c.loop-i.invariant in
-    let short = bit_short c.loop-i.at c.loop-i.i c.args.code in
-    never_full (length c.loop-i.out) c.loop-i.at (to_z w32 (c.args.code / 2 ^ c.loop-i.i % 2)) c.in_default.ensures.answer (omega (arith, texts_few c.args.self.now.names))
+-- the bits that are handed on
+bits_are : (t : Flags) (code k : ℕ) (bits : List ℤ) → k ≡ t.count → bits ≡ bits_below 12 code → take k bits ≡ bits_below (length (flags_of t).names) code
+bits_are t code k bits is-k is =
+    ap₂ (λ (n : ℕ) (zs : List ℤ). take n zs) is-k is ∙ first_bits t.count code t.most ∙ ap (λ n. bits_below n code) (sym (count_names t))
 
-pub loop-i-preserved : goal.loop-i-preserved
-loop-i-preserved c =
-    let so_far = c.loop-i.invariant in
-    let x = to_z w32 (c.args.code / 2 ^ c.loop-i.i % 2) in
-    let room = room_for (length c.loop-i.out) c.loop-i.at (item c.loop-i.at x) c.in-Some.end c.in-Some.ensures.answer in
-    bits_more c.args.out.now c.loop-i.i c.args.code c.loop-i.at c.in-Some.end c.loop-i.out c.put_item.new.out
-    so_far.0 so_far.1 so_far.2 c.in-Some.ensures.answer c.in-Some.ensures.after room.1
+pub print_values-requires : goal.print_values-requires
+print_values-requires c =
+    let t = c.args.self.now in
+    let is = bits_are t c.args.code c.from.result c.bits_of-bits.result c.from.ensures c.bits_of-bits.ensures in
+    omega (arith, ap (λ (zs : List ℤ). length (spaced zs)) is, bits_short (length (flags_of t).names) c.args.code, count_names t, t.most)
+
+pub returns-clause-answer : goal.returns-clause-answer
+returns-clause-answer c =
+    let is = bits_are c.args.self.now c.args.code c.from.result c.bits_of-bits.result c.from.ensures c.bits_of-bits.ensures in
+    c.print_values.ensures.answer
+    ∙ ap₂ (λ (codes : ℕ) (zs : List ℤ). print_answer codes c.args.code (length c.args.out.now) (spaced zs)) c.code_count.ensures is
+
+pub returns-clause-after : goal.returns-clause-after
+returns-clause-after c =
+    let is = bits_are c.args.self.now c.args.code c.from.result c.bits_of-bits.result c.from.ensures c.bits_of-bits.ensures in
+    c.print_values.ensures.after
+    ∙ ap₂ (λ (codes : ℕ) (zs : List ℤ). print_leaves codes c.args.code c.args.out.now (spaced zs)) c.code_count.ensures is

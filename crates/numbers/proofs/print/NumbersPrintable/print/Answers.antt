@@ -1,53 +1,35 @@
-use Rattle.std.proofs.Common.{◌≡◌, List, length, take, ℤ, ap, ◌∙◌, arith, w32, to_z, of_z}
-use Rattle.std.proofs.lemmas.List.{take_all}
-use Rattle.theory.proofs.Printed.{no_code, short_buffer, printed}
-use Rattle.theory.proofs.Texts.{never_full}
-use Rattle.theory.specs.Print.{item, spaced}
-use Rattle.writer.proofs.Firsts.{room_for}
-use Rattle.writer.specs.Puts.{put_at}
+use Rattle.std.proofs.Common.{◌≡◌, ℕ, List, length, take, map, ℤ, arith, ap, ap₂, ◌∙◌}
+use Rattle.std.specs.List.{range_with_len}
+use Rattle.theory.specs.Print.{spaced, print_answer, print_leaves}
+use Rattle.numbers.specs.declared.numbers.Numbers.{Numbers}
 use Rattle.numbers.specs.Codes.{all_values}
+use Rattle.numbers.specs.Kept.{grid_value}
 use Rattle.numbers.specs.Model.{numbers_of}
-use Rattle.numbers.specs.Values.{combinations}
-use Rattle.numbers.proofs.Shown.{value_short, values_count, values_more}
-use Rattle.numbers.proofs.Readings.{count_variables}
+use Rattle.numbers.proofs.Shown.{values_short, first_values}
 use Rattle.numbers.proofs.print.NumbersPrintable.print.Goals as goal
 
-pub returns-then-code-self : goal.returns-then-code-self
-returns-then-code-self c =
+-- the values that are handed on
+values_are : (t : Numbers) (code k : ℕ) (values : List ℤ) → k ≡ t.grid.count → values ≡ map (λ i. grid_value t.grid i code) (range_with_len 0 8)
+    → take k values ≡ all_values (numbers_of t).variables code
+values_are t code k values is-k is = ap₂ (λ (n : ℕ) (zs : List ℤ). take n zs) is-k is ∙ first_values t code
+
+pub print_values-requires : goal.print_values-requires
+print_values-requires c =
+    let values = c.values_of-values.result in
+    let all : length values ≡ 8 = ap length c.values_of-values.ensures.are in
+    let short = values_short values (λ k h. c.values_of-values.ensures.bounds k (omega (arith, all))) c.from.result (omega (arith, all, c.from.ensures, c.args.self.now.grid.few)) in
+    omega (arith, short, c.from.ensures, c.args.self.now.grid.few)
+
+pub returns-clause-answer : goal.returns-clause-answer
+returns-clause-answer c =
     let t = c.args.self.now in
-    let p = no_code (combinations (numbers_of t).variables) c.args.code c.args.out.now (spaced (all_values (numbers_of t).variables c.args.code)) (omega (arith, t.counted, c.if-code-self.true)) in
-    record { answer = p.0; after = p.1 }
+    let is = values_are t c.args.code c.from.result c.values_of-values.result c.from.ensures c.values_of-values.ensures.are in
+    c.print_values.ensures.answer
+    ∙ ap₂ (λ (codes : ℕ) (zs : List ℤ). print_answer codes c.args.code (length c.args.out.now) (spaced zs)) t.counted is
 
-pub returns-then-out-lt-PRINT_ROOM : goal.returns-then-out-lt-PRINT_ROOM
-returns-then-out-lt-PRINT_ROOM c =
+pub returns-clause-after : goal.returns-clause-after
+returns-clause-after c =
     let t = c.args.self.now in
-    let p = short_buffer (combinations (numbers_of t).variables) c.args.code c.args.out.now (spaced (all_values (numbers_of t).variables c.args.code)) (omega (arith, t.counted, c.if-code-self.false)) c.if-out-lt-PRINT_ROOM.true in
-    record { answer = p.0; after = p.1 }
-
-pub unreachable-requires : goal.unreachable-requires
-unreachable-requires c =
-    let x = c.value.result in
-    let so_far = c.loop-i.invariant in
-    let short = value_short c.loop-i.at x c.value.ensures.bounds in
-    never_full (length c.loop-i.out) c.loop-i.at (to_z w32 (of_z w32 x)) c.in_default.ensures.answer (omega (arith, c.args.self.now.grid.few, count_variables c.args.self.now))
-
-pub loop-i-preserved : goal.loop-i-preserved
-loop-i-preserved c =
-    let so_far = c.loop-i.invariant in
-    let x = c.value.result in
-    let room = room_for (length c.loop-i.out) c.loop-i.at (item c.loop-i.at (to_z w32 (of_z w32 x))) c.in-Some.end c.in-Some.ensures.answer in
-    values_more c.args.self.now c.args.code c.args.out.now c.loop-i.i x c.loop-i.at c.in-Some.end c.loop-i.out c.put_item.new.out
-    (omega (arith, count_variables c.args.self.now)) c.value.ensures.is c.value.ensures.bounds so_far.0 so_far.1 so_far.2 c.in-Some.ensures.answer c.in-Some.ensures.after room.1
-
-pub returns : goal.returns
-returns c =
-    let t = c.args.self.now in
-    let values = all_values (numbers_of t).variables c.args.code in
-    let so_far = c.loop-i.invariant in
-    let all : take c.loop-i.i values ≡ values = take_all c.loop-i.i values (omega (arith, values_count t c.args.code, count_variables t)) in
-    let p = printed (combinations (numbers_of t).variables) c.args.code c.args.out.now (spaced values) (omega (arith, t.counted, c.if-code-self.false)) c.if-out-lt-PRINT_ROOM.false
-    c.loop-i.at c.loop-i.out (so_far.0 ∙ ap (λ (zs : List ℤ). length (spaced zs)) all) (so_far.1 ∙ ap (λ (zs : List ℤ). put_at c.args.out.now 0 (spaced zs)) all) in
-    record { answer = p.0; after = p.1 }
-
-pub value-requires : goal.value-requires
-value-requires c = omega (arith, count_variables c.args.self.now)
+    let is = values_are t c.args.code c.from.result c.values_of-values.result c.from.ensures c.values_of-values.ensures.are in
+    c.print_values.ensures.after
+    ∙ ap₂ (λ (codes : ℕ) (zs : List ℤ). print_leaves codes c.args.code c.args.out.now (spaced zs)) t.counted is
