@@ -60,6 +60,7 @@ pub(crate) fn gathered(guides: &[Guide; 64], members: u64) -> Span
     let mut reach = 0;
     let mut must = 0;
     let mut rest = members;
+    // The members are bits, which no slice or range lists.
     while rest > 0 {
         let number = top(rest);
         let span = guide_at(guides, number).span;
@@ -102,6 +103,7 @@ fn span_of(ways: Ways, guides: &[Guide; 64]) -> Span
 pub(crate) fn fill(visit: &Visit, able: u64, guides: &mut [Guide; 64])
     ensures { GuidesBelow (moment_at visit.now) (contents_at visit.now) able guides.new (length (contents_at visit.now).nodes) }
 {
+    // A formula's guide is made of those of its parts, which have lower numbers.
     for number in 0..visit.book.formula_count() {
         if let Some(ways) = ways_on(visit, number, able) {
             let span = span_of(ways, guides);

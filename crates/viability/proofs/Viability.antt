@@ -1,5 +1,5 @@
 -- A label has a sound choice exactly if its members are viable.
-use Rattle.std.proofs.Common.{◌≡◌, ℕ, zero, suc, ◌+◌, ◌^◌, ◌<◌, Bool, true, false, ◌↔◌, length, Option, Decides, refl, ◌∙◌, subst, ⊎_elim, arith}
+use Rattle.std.proofs.Common.{◌≡◌, ℕ, zero, suc, ◌+◌, ◌^◌, ◌<◌, Bool, true, false, ◌↔◌, length, Decides, refl, ◌∙◌, subst, ⊎_elim, arith, Some, None, Option}
 use mathlib.Core.Path.{subst⁻¹}
 use native.Mathlib.Decide.{ℕ_discrete}
 use lib.Bits.{bit_or}
@@ -15,7 +15,7 @@ use Rattle.tableau.proofs.Masks.{zero_has, member?}
 use Rattle.tableau.proofs.Steps.{part_before}
 use Rattle.viability.specs.declared.offer.Offer.{Offer}
 use Rattle.viability.specs.Moments.{Moment, Admits, SoundAt, SomeSound, moment}
-use Rattle.viability.specs.Offers.{Inside, Under, OffersSide}
+use Rattle.viability.specs.Offers.{Inside, Under, OffersSide, BringsInside}
 use Rattle.viability.specs.Viable.{Fits, FitOffered, FitsSomehow, Viable, ViableBelow, known_part, Tells}
 use Rattle.viability.proofs.Bits.{in_or_left, in_with, with_has, in_low, inside_parts}
 use Rattle.viability.proofs.Shown.{sound_shown}
@@ -119,3 +119,8 @@ fit_offered w b V k s o true r ok is d e =
     subst⁻¹ (FitOffered w b V k s) e ((ok, (inside_parts (parts (node_at b k) s) o.parts V is.parts_are).0 (d.0 refl)), is)
 fit_offered w b V k s o false r ok is d e =
     subst⁻¹ (FitOffered w b V k s) e (λ fit. false≢true (d.1 ((inside_parts (parts (node_at b k) s) o.parts V is.parts_are).1 fit.1)))
+
+-- a side that fits brings in members of V alone
+pub fit_brings : (w : Moment) (b : Contents) (V k : ℕ) (s : Side) (r : Option Offer) → FitOffered w b V k s r → Fits w b V k s → BringsInside V r
+fit_brings w b V k s (Some o) (fit, is) h = (inside_parts (parts (node_at b k) s) o.parts V is.parts_are).1 fit.1
+fit_brings w b V k s None out h = out h

@@ -41,6 +41,11 @@ abbrev pub Offered : Moment → (number : ℕ) → Node → tableau.Side → Opt
 Offered w number node s (Some o) = Admits w node s × OffersSide number node s o
 Offered w number node s None = ¬ (Admits w node s)
 
+-- there is an offer, and its parts are in V
+abbrev pub BringsInside : Label → Option Offer → Type 0
+BringsInside V (Some o) = Inside o.parts V
+BringsInside V None = ⊥
+
 -- the operands of a node are below n
 abbrev pub OperandsBelow : (n : ℕ) → Node → Type 0
 OperandsBelow n True = Unit {0}

@@ -1,4 +1,4 @@
-// Labels: sets of formula numbers below 64, as masks.
+// Labels: sets of formula numbers below 64, as masks; what the tests of masks say of a label's formulas.
 ghost use Rattle.std.specs.Prelude.{◌≡◌, ◌%◌, ◌^◌, ◌<◌, ◌≤◌, length, Decides};
 ghost use Rattle.ltlf.specs.Contents.{book_contents};
 ghost use Rattle.tableau.specs.Labels.{◌∈◌};

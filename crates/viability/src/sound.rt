@@ -1,23 +1,25 @@
 // Whether a label has a sound choice: the choices are tried one after another, and the first that is tried is sound.
 ghost use Rattle.std.specs.Prelude.{◌≡◌, ◌<◌, ◌≤◌, false};
 ghost use Rattle.tableau.specs.Labels.{◌∈◌};
-ghost use Rattle.viability.specs.Offers.{chosen};
-ghost use Rattle.viability.specs.Viable.{Fits, Viable, DecidesSound};
+ghost use Rattle.viability.specs.Offers.{BringsInside};
+ghost use Rattle.viability.specs.Viable.{Viable, DecidesSound};
 ghost use Rattle.viability.specs.Visits.{moment_at, contents_at};
 
 use super::labels::{contains, inside, known_part};
-use super::offer::Side;
+use super::offer::{Offer, Side};
 use super::visit::Visit;
 
 impl Visit<'_> {
-    /// The side of a formula that fits, where one does; the other side where it is flipped.
-    fn side_for(&self, number: u8, able: u64, flipped: bool) -> Side
+    /// The offer of a side of a formula that fits, where one does; that of the other side where it is flipped.
+    fn tried(&self, number: u8, able: u64, flipped: bool) -> Option<Offer>
         requires { Viable (moment_at self.now) (contents_at self.now) able }
-        ensures { flipped ≡ false → number ∈ able → Fits (moment_at self.now) (contents_at self.now) able number (chosen result) }
+        ensures { flipped ≡ false → number ∈ able → BringsInside able result }
     {
         match self.fitting(number, Side::One, able) {
-            Some(_) => if flipped { Side::Other } else { Side::One },
-            None => if flipped { Side::One } else { Side::Other },
+            Some(offer) if !flipped => Some(offer),
+            None if !flipped => self.fitting(number, Side::Other, able),
+            Some(_) => self.offer(number, Side::Other),
+            None => self.offer(number, Side::One),
         }
     }
 
@@ -38,8 +40,7 @@ impl Visit<'_> {
                 if !contains(expansion, number) {
                     continue;
                 }
-                let side = self.side_for(number, able, contains(flips, number));
-                let Some(offer) = self.offer(number, side) else {
+                let Some(offer) = self.tried(number, able, contains(flips, number)) else {
                     continue 'choices;
                 };
                 expansion |= offer.parts;

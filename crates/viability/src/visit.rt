@@ -53,6 +53,7 @@ impl Visit<'_> {
         ensures tells { Tells (contents_at self.now) self.now.truth self.now.last result }
     {
         let mut able = 0;
+        // The number is a formula, not an index, and each test needs the formulas found before it.
         for number in 0..self.book.formula_count() {
             if self.fits_somehow(number, able) {
                 able = with(able, number);

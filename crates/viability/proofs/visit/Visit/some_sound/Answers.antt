@@ -1,21 +1,20 @@
-use Rattle.std.proofs.Common.{refl}
+use Rattle.std.proofs.Common.{Some, None, refl}
 use Rattle.std.proofs.lemmas.Bool.{false≢true}
-use Rattle.viability.specs.Visits.{moment_at, contents_at}
-use Rattle.viability.proofs.First.{first_inside, first_admitted, not_sound, is_sound}
+use Rattle.viability.specs.Visits.{contents_at}
+use Rattle.viability.proofs.First.{first_inside, first_brings, not_sound, is_sound}
 use Rattle.viability.proofs.visit.Visit.some_sound.Goals as goal
 
 pub loop-number-preserved : goal.loop-number-preserved
 loop-number-preserved c =
-    first_inside (moment_at c.args.self.now) (contents_at c.args.self.now) c.viable-able.result _ _ _ _ _
-    c.choices.invariant c.contains-in-loop-number.ensures c.side_for-side.ensures c.loop-number.invariant
-    (c.if-not-contains.ensures.0 refl) _ c.in-Some.ensures.1
+    first_inside c.viable-able.result _ c.in-Some.offer c.loop-number.invariant
+    (first_brings c.viable-able.result _ _ _ _ (Some c.in-Some.offer) c.choices.invariant c.contains-in-loop-number.ensures c.in-Some.ensures c.loop-number.invariant
+    (c.if-not-contains.ensures.0 refl))
 
 pub choices-preserved : goal.choices-preserved
 choices-preserved c =
     absurd
-    (first_admitted (moment_at c.args.self.now) (contents_at c.args.self.now) c.viable-able.result _ _ _ _ _
-    c.choices.invariant c.contains-in-loop-number.ensures c.side_for-side.ensures c.loop-number.invariant
-    (c.if-not-contains.ensures.0 refl) c.in_default.ensures)
+    (first_brings c.viable-able.result _ _ _ _ None c.choices.invariant c.contains-in-loop-number.ensures c.in_default.ensures c.loop-number.invariant
+    (c.if-not-contains.ensures.0 refl))
 
 pub returns-then-not-inside : goal.returns-then-not-inside
 returns-then-not-inside c =
