@@ -30,10 +30,7 @@ impl Numbers {
     pub fn fresh() -> Numbers
         ensures { numbers_of result ≡ fresh_numbers }
     {
-        match Numbers::with_variable(b"a", 0, 0) {
-            Ok(numbers) => numbers,
-            Err(_) => unreachable(),
-        }
+        Numbers::with_variable(b"a", 0, 0).unwrap()
     }
 
     /// One variable with this name and these bounds, and no atom.

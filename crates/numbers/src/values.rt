@@ -59,6 +59,7 @@ impl Comparison {
 
 impl Atom {
     /// The sum of the terms, where `next` comes next.
+    // A `for`: of a chain's signed `sum` nothing says that it fits.
     fn sum(&self, grid: &Grid, code: u16, next: u16) -> i32
         requires few { length self.now.terms.items ≤ 4 }
         requires fit { terms_fit (length grid.now.variables.items) self.now.terms.items ≡ true }

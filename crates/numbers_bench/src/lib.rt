@@ -16,14 +16,11 @@ fn as_one(answer: Result<bool, Refusal>) -> u32
     ensures count { result ≡ as_one answer }
     ensures few { result ≤ 1 }
 {
-    match answer {
-        Ok(true) => 1,
-        Ok(false) => 0,
-        Err(_) => 0,
-    }
+    u32::from(answer.unwrap_or(false))
 }
 
 /// Before how many codes the atom holds at the code.
+// A `for` here and in `table`: of `map(..).sum()` over a theory's calls it was not proved that the sum fits.
 fn row<T: Theory>(theory: &T, atom: u8, code: u16) -> u32
     ensures count { result ≡ facts_from (T.Theory.meaning theory.now) atom code (T.Theory.meaning theory.now).codes }
     ensures few { result ≤ (T.Theory.meaning theory.now).codes }
@@ -48,10 +45,7 @@ fn table<T: Theory>(theory: &T, atom: u8) -> u64
 
 /// Three variables of sixteen values, and three atoms: plain, strong and weak.
 fn subject() -> Numbers {
-    let mut theory = match Numbers::with_variable(b"tries", 0, 15) {
-        Ok(theory) => theory,
-        Err(_) => Numbers::fresh(),
-    };
+    let mut theory = Numbers::with_variable(b"tries", 0, 15).unwrap_or(Numbers::fresh());
     let _ = theory.add_variable(b"cards", 0, 15);
     let _ = theory.add_variable(b"hour", -8, 7);
     let now = Term {
