@@ -1,7 +1,7 @@
 // The search by layers: the positions at distance 0, at distance 1, and so on.
 ghost use Rattle.std.specs.Prelude.{◌≡◌, ◌^◌, ◌≤◌, length};
 ghost use Rattle.search.specs.Layers.{AllBounded, After, Came, FoundIn, IndexedRows, Searched, Spread};
-ghost use Rattle.search.specs.Questions.{Ready, Room};
+ghost use Rattle.search.specs.Questions.{Room};
 ghost use Rattle.search.specs.Rows.{position};
 ghost use Rattle.tableau.specs.Positions.{Starts, Step, Ends};
 
@@ -45,7 +45,6 @@ pub(crate) fn first_end<S: Space>(
     start: usize,
     end: usize,
 ) -> Option<usize>
-    requires ready { Ready (S.Space.question space.now) }
     requires span { (start ≤ end) × (end ≤ length rows.now) }
     requires bounded { AllBounded (S.Space.question space.now) rows.now start end }
     ensures { FoundIn (Ends (S.Space.question space.now)) rows.now start end result }
@@ -66,7 +65,6 @@ pub(crate) fn expand_layer<S: Space>(
     end: usize,
     labels: &mut [Cell<NextLabel>],
 ) -> Option<usize>
-    requires ready { Ready (S.Space.question space.now) }
     requires span { start ≤ end }
     requires room { Room rows.old labels.old }
     requires indexed { IndexedRows rows.old end }
@@ -87,13 +85,12 @@ pub(crate) fn by_layers<S: Space>(
     rows: &mut [Cell<Row>],
     labels: &mut [Cell<NextLabel>],
 ) -> Option<Found>
-    requires ready { Ready (S.Space.question space.now) }
     requires room { Room rows.old labels.old }
     ensures { Searched (Starts (S.Space.question space.now)) (Step (S.Space.question space.now)) (Ends (S.Space.question space.now)) rows.old rows.new result }
 {
     let mut filled = space.begin(rows)?;
     let mut start = 0;
-    let mut depth = 0;
+    let mut depth: usize = 0;
     'layers: while start < filled {
         if let Some(row) = first_end(space, rows, start, filled) {
             return Some(Found::Can { row, filled, depth });
