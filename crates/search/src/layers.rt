@@ -25,6 +25,9 @@ pub(crate) enum Found {
     },
 }
 
+// Rows and `filled` stay two arguments, here and above: a struct that holds the lent slice would have to promise in each contract
+// that it still lends the same one.
+
 /// Enters a row behind the first `filled`, unless its position stands there; `None` where no row is left.
 pub(crate) fn enter(rows: &mut [Cell<Row>], filled: usize, row: Row) -> Option<usize>
     requires { (length rows.old ≤ 2 ^ 32) × (IndexedRows rows.old filled) }
@@ -49,6 +52,7 @@ pub(crate) fn first_end<S: Space>(
     requires bounded { AllBounded (S.Space.question space.now) rows.now start end }
     ensures { FoundIn (Ends (S.Space.question space.now)) rows.now start end result }
 {
+    // By number: what is wanted is the row's own, and `position` would count from `start`.
     for i in start..end {
         if space.finish(rows[i].item) {
             return Some(i);
@@ -72,7 +76,7 @@ pub(crate) fn expand_layer<S: Space>(
     ensures { Spread (Came (Step (S.Space.question space.now)) rows.old start end) (After (Step (S.Space.question space.now)) rows.old start end) rows.old rows.new end result }
 {
     let mut filled = end;
-    // By number: rows are entered behind the layer while it is read.
+    // By number: rows are entered behind the layer while it is read, so that no borrow of it can last.
     for i in start..end {
         filled = space.expand(rows[i].item, i as u32, rows, filled, labels)?;
     }
@@ -91,6 +95,7 @@ pub(crate) fn by_layers<S: Space>(
     let mut filled = space.begin(rows)?;
     let mut start = 0;
     let mut depth: usize = 0;
+    // A `while`: how many layers there are is known only when one is empty.
     'layers: while start < filled {
         if let Some(row) = first_end(space, rows, start, filled) {
             return Some(Found::Can { row, filled, depth });
