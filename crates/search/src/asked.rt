@@ -1,7 +1,7 @@
 // The question of a theory, a book and kept visits.
 ghost use Rattle.std.specs.Prelude.{◌≡◌, suc, pred, ◌<◌, ◌≤◌, min, length};
 ghost use Rattle.ltlf.specs.Contents.{book_contents};
-ghost use Rattle.search.specs.Questions.{asked};
+ghost use Rattle.search.specs.Questions.{asked, Ready};
 
 use crate::Row;
 use crate::expand::expand_codes;
@@ -18,10 +18,11 @@ use viability::Visit;
 
 /// What is asked: which histories begin with the kept visits and meet the book.
 #[derive(Drop)]
-pub(crate) struct Asked<'t, 'b, 'k, T> {
+pub(crate) struct Asked<'t, 'b, 'k, T: Theory> {
     pub(crate) theory: &'t T,
     pub(crate) book: &'b Book,
     pub(crate) kept: &'k [u16],
+    ghost ready: { Ready (asked (T.Theory.meaning theory.now) (book_contents book.now) kept.now) },
 }
 
 /// The place of the next visit: one further, up to the last place.
@@ -34,6 +35,8 @@ fn next_place(kept: &[u16], place: u16) -> u16
 
 impl<T: Theory> Space for Asked<'_, '_, '_, T> {
     ghost question = { λ s. asked (T.Theory.meaning s.theory.now) (book_contents s.book.now) s.kept.now };
+
+    ghost ready = { λ s. s.ready };
 
     fn finish(&self, row: Row) -> bool {
         if usize::from(row.place) != last_place(self.kept) {
@@ -68,15 +71,6 @@ impl<T: Theory> Space for Asked<'_, '_, '_, T> {
             label: 0,
             from,
         };
-        expand_codes(
-            self.theory,
-            self.book,
-            row,
-            visit,
-            visits,
-            rows,
-            filled,
-            labels,
-        )
+        expand_codes(self, row, visit, visits, rows, filled, labels)
     }
 }

@@ -1,7 +1,7 @@
 // A question answered in lent rows, with the history that it shows.
 ghost use Rattle.std.specs.Prelude.{◌≡◌, ◌^◌, ◌≤◌, length};
 ghost use Rattle.search.specs.Outcomes.{outcome_of, RowsLeft, HistoryLeft};
-ghost use Rattle.search.specs.Questions.{Ready, Room};
+ghost use Rattle.search.specs.Questions.{Room};
 ghost use Rattle.tableau.specs.Search.{answer};
 
 use crate::history::read_back;
@@ -18,7 +18,6 @@ pub(crate) fn explore<S: Space>(
     history: &mut [u16],
     labels: &mut [Cell<NextLabel>],
 ) -> Outcome
-    requires ready { Ready (S.Space.question space.now) }
     requires room { Room rows.old labels.old }
     requires list { length rows.old ≤ length history.old }
     ensures answer { result ≡ outcome_of (answer (S.Space.question space.now) (length rows.old)) }

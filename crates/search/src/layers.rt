@@ -1,7 +1,7 @@
 // The search by layers: the positions at distance 0, at distance 1, and so on.
 ghost use Rattle.std.specs.Prelude.{◌≡◌, ◌^◌, ◌≤◌, length};
 ghost use Rattle.search.specs.Layers.{AllBounded, After, Came, FoundIn, IndexedRows, Searched, Spread};
-ghost use Rattle.search.specs.Questions.{Ready, Room};
+ghost use Rattle.search.specs.Questions.{Room};
 ghost use Rattle.search.specs.Rows.{position};
 ghost use Rattle.tableau.specs.Positions.{Starts, Step, Ends};
 
@@ -25,6 +25,9 @@ pub(crate) enum Found {
     },
 }
 
+// Rows and `filled` stay two arguments, here and above: a struct that holds the lent slice would have to promise in each contract
+// that it still lends the same one.
+
 /// Enters a row behind the first `filled`, unless its position stands there; `None` where no row is left.
 pub(crate) fn enter(rows: &mut [Cell<Row>], filled: usize, row: Row) -> Option<usize>
     requires { (length rows.old ≤ 2 ^ 32) × (IndexedRows rows.old filled) }
@@ -43,11 +46,11 @@ pub(crate) fn first_end<S: Space>(
     start: usize,
     end: usize,
 ) -> Option<usize>
-    requires ready { Ready (S.Space.question space.now) }
     requires span { (start ≤ end) × (end ≤ length rows.now) }
     requires bounded { AllBounded (S.Space.question space.now) rows.now start end }
     ensures { FoundIn (Ends (S.Space.question space.now)) rows.now start end result }
 {
+    // By number: what is wanted is the row's own, and `position` would count from `start`.
     for i in start..end {
         if space.finish(rows[i].item) {
             return Some(i);
@@ -64,7 +67,6 @@ pub(crate) fn expand_layer<S: Space>(
     end: usize,
     labels: &mut [Cell<NextLabel>],
 ) -> Option<usize>
-    requires ready { Ready (S.Space.question space.now) }
     requires span { start ≤ end }
     requires room { Room rows.old labels.old }
     requires indexed { IndexedRows rows.old end }
@@ -72,7 +74,7 @@ pub(crate) fn expand_layer<S: Space>(
     ensures { Spread (Came (Step (S.Space.question space.now)) rows.old start end) (After (Step (S.Space.question space.now)) rows.old start end) rows.old rows.new end result }
 {
     let mut filled = end;
-    // By number: rows are entered behind the layer while it is read.
+    // By number: rows are entered behind the layer while it is read, so that no borrow of it can last.
     for i in start..end {
         filled = space.expand(rows[i].item, i as u32, rows, filled, labels)?;
     }
@@ -85,13 +87,13 @@ pub(crate) fn by_layers<S: Space>(
     rows: &mut [Cell<Row>],
     labels: &mut [Cell<NextLabel>],
 ) -> Option<Found>
-    requires ready { Ready (S.Space.question space.now) }
     requires room { Room rows.old labels.old }
     ensures { Searched (Starts (S.Space.question space.now)) (Step (S.Space.question space.now)) (Ends (S.Space.question space.now)) rows.old rows.new result }
 {
     let mut filled = space.begin(rows)?;
     let mut start = 0;
-    let mut depth = 0;
+    let mut depth: usize = 0;
+    // A `while`: how many layers there are is known only when one is empty.
     'layers: while start < filled {
         if let Some(row) = first_end(space, rows, start, filled) {
             return Some(Found::Can { row, filled, depth });

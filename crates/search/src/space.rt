@@ -14,15 +14,16 @@ pub(crate) trait Space {
     // The question that is asked.
     ghost question: { Self → Question };
 
+    // It can be searched.
+    ghost ready: { (s : Self) → Ready (question s) };
+
     /// Whether the position of `row` ends.
     fn finish(&self, row: Row) -> bool
-        requires ready { Ready (question self.now) }
         requires bounded { Bounded (question self.now) (position row) }
         ensures { Decides result (Ends (question self.now) (position row)) };
 
     /// Enters the starting positions, and says how many there are; `None` where a row is wanted and none is left.
     fn begin(&self, rows: &mut [Cell<Row>]) -> Option<usize>
-        requires ready { Ready (question self.now) }
         requires room { length rows.old ≤ 2 ^ 32 }
         ensures { Spread (λ e. e.from ≡ 0) (Starts (question self.now)) rows.old rows.new 0 result };
 
@@ -36,7 +37,6 @@ pub(crate) trait Space {
         filled: usize,
         labels: &mut [Cell<NextLabel>],
     ) -> Option<usize>
-        requires ready { Ready (question self.now) }
         requires bounded { Bounded (question self.now) (position row) }
         requires room { Room rows.old labels.old }
         requires indexed { IndexedRows rows.old filled }

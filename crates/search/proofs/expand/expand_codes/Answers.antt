@@ -13,15 +13,15 @@ use Rattle.search.proofs.expand.expand_codes.Goals as goal
 pub truth_at-truth-requires : goal.truth_at-truth-requires
 truth_at-truth-requires g c =
     let codes = c.requires.codes in
-    let atoms = c.requires.atoms in
+    let ready = c.args.asked.now.ready in
     let counted = c.atom_count.ensures in
     let at = range_turn c.args.visits.start c.args.visits.end (cc) c.loop-code.yielded _ c.loop-code.yielded_by _ c.next.new.self c.in-Some.code c.in-Some.is c.next.ensures.steps in
-    (omega arith, (counted ∙ atoms.0, (codes.0, lt-ltb _ _ (omega (arith, at.1, codes.1.1)))))
+    (omega (arith, ready.few_atoms), (counted ∙ ready.atoms_same, (codes.0, lt-ltb _ _ (omega (arith, at.1, codes.1.1)))))
 
 pub loop-code-preserved : goal.loop-code-preserved
 loop-code-preserved g c =
-    let m = g.T.Theory.meaning c.args.theory.now in
-    let b = book_contents c.args.book.now in
+    let m = g.T.Theory.meaning c.args.asked.now.theory.now in
+    let b = book_contents c.args.asked.now.book.now in
     let s = position c.args.row in
     let at = range_turn c.args.visits.start c.args.visits.end (cc) c.loop-code.yielded _ c.loop-code.yielded_by _ c.next.new.self c.in-Some.code c.in-Some.is c.next.ensures.steps in
     let shown = subst (Shown m c.args.row.code (Code c.in-Some.code) c.truth_at-truth.result) c.atom_count.ensures c.truth_at-truth.ensures in
@@ -36,8 +36,8 @@ loop-code-preserved g c =
 
 pub returns-in_default : goal.returns-in_default
 returns-in_default g c =
-    let m = g.T.Theory.meaning c.args.theory.now in
-    let b = book_contents c.args.book.now in
+    let m = g.T.Theory.meaning c.args.asked.now.theory.now in
+    let b = book_contents c.args.asked.now.book.now in
     let s = position c.args.row in
     let at = range_turn c.args.visits.start c.args.visits.end (cc) c.loop-code.yielded _ c.loop-code.yielded_by _ c.next.new.self c.in-Some.code c.in-Some.is c.next.ensures.steps in
     let shown = subst (Shown m c.args.row.code (Code c.in-Some.code) c.truth_at-truth.result) c.atom_count.ensures c.truth_at-truth.ensures in
@@ -49,8 +49,8 @@ returns-in_default g c =
 
 pub returns-in_err-filled : goal.returns-in_err-filled
 returns-in_err-filled g c =
-    let m = g.T.Theory.meaning c.args.theory.now in
-    let b = book_contents c.args.book.now in
+    let m = g.T.Theory.meaning c.args.asked.now.theory.now in
+    let b = book_contents c.args.asked.now.book.now in
     let s = position c.args.row in
     let at = range_turn c.args.visits.start c.args.visits.end (cc) c.loop-code.yielded _ c.loop-code.yielded_by _ c.next.new.self c.in-Some.code c.in-Some.is c.next.ensures.steps in
     let shown = subst (Shown m c.args.row.code (Code c.in-Some.code) c.truth_at-truth.result) c.atom_count.ensures c.truth_at-truth.ensures in
@@ -65,7 +65,7 @@ returns-in_err-filled g c =
 pub returns : goal.returns
 returns g c =
     collected_all (λ e. e.from ≡ c.args.visit.from)
-    (StepsFrom (g.T.Theory.meaning c.args.theory.now) (book_contents c.args.book.now) (position c.args.row) c.args.visit.place)
+    (StepsFrom (g.T.Theory.meaning c.args.asked.now.theory.now) (book_contents c.args.asked.now.book.now) (position c.args.row) c.args.visit.place)
     c.args.visits.start _ _ _ _ _ c.args.visits.end c.requires.codes.1.0
     (range_end c.args.visits.start c.args.visits.end (cc) c.loop-code.yielded _ c.loop-code.yielded_by _ c.next.new.self c.requires.codes.1.0 c.in-None.is c.next.ensures.steps)
     c.loop-code.invariant.0

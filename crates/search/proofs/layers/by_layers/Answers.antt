@@ -15,10 +15,10 @@ pub layers-init : goal.layers-init
 layers-init g c = (omega arith, level_first _ _ _ _ _ _ _ c.in_ok-filled.ensures)
 
 pub first_end-requires-clause-bounded : goal.first_end-requires-clause-bounded
-first_end-requires-clause-bounded g c = level_bounded _ c.requires.ready.posed _ _ _ _ _ c.layers.invariant.1
+first_end-requires-clause-bounded g c = level_bounded _ (g.S.Space.ready c.args.space.now).posed _ _ _ _ _ c.layers.invariant.1
 
 pub expand_layer-requires-clause-bounded : goal.expand_layer-requires-clause-bounded
-expand_layer-requires-clause-bounded g c = level_bounded _ c.requires.ready.posed _ _ _ _ _ c.layers.invariant.1
+expand_layer-requires-clause-bounded g c = level_bounded _ (g.S.Space.ready c.args.space.now).posed _ _ _ _ _ c.layers.invariant.1
 
 pub returns-in-Some : goal.returns-in-Some
 returns-in-Some g c =

@@ -5,7 +5,7 @@ use Rattle.search.proofs.Lists.{here, none_more, listed_wider}
 use Rattle.search.proofs.layers.first_end.Goals as goal
 
 pub finish-requires : goal.finish-requires
-finish-requires g c = record { ready = c.requires.ready; bounded = c.requires.bounded _ _ (omega arith) (omega arith) }
+finish-requires g c = record { bounded = c.requires.bounded _ _ (omega arith) (omega arith) }
 
 pub returns-then-finish : goal.returns-then-finish
 returns-then-finish g c =

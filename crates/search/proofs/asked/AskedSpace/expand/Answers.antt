@@ -11,7 +11,6 @@ expand_codes-requires g c =
     let allowed = c.visits_at-visits.ensures in
     let codes = c.code_count.ensures in
     record {
-      atoms = (c.requires.ready.atoms_same, c.requires.ready.few_atoms);
       codes = (c.requires.bounded.code_fits, (allowed.0, omega (arith, allowed.1)));
       known = c.requires.bounded.label_fits;
       room = c.requires.room;
