@@ -25,7 +25,7 @@ impl Printable for Flags {
         print_values(
             self.code_count(),
             code,
-            &bits[..usize::from(self.count)],
+            &bits[..usize::from(self.flag_count())],
             out,
         )
     }

@@ -1,11 +1,9 @@
 -- Values as they are printed, and the code that they tell.
-use Rattle.std.proofs.Common.{◌≡◌, ℕ, zero, suc, ◌+◌, ◌*◌, ◌/◌, ◌%◌, ◌^◌, ◌<◌, ◌≤◌, true, List, [], ◌∷◌, ◌++◌, length, get_or, take, ℤ, pos, negsuc, ◌+ℤ◌, ◌-ℤ◌, nat_abs, map, sym, refl, ap, ◌∙◌, ap₂, le_of_suc-le-suc, mod-eq_of_lt, add-one, arith, length-append}
+use Rattle.std.proofs.Common.{◌≡◌, ℕ, zero, suc, ◌+◌, ◌*◌, ◌/◌, ◌%◌, ◌^◌, ◌<◌, ◌≤◌, true, List, [], ◌∷◌, ◌++◌, length, get_or, take, ℤ, pos, negsuc, ◌+ℤ◌, ◌-ℤ◌, nat_abs, sym, refl, ap, ◌∙◌, ap₂, le_of_suc-le-suc, mod-eq_of_lt, add-one, arith, length-append}
 use lib.Arith.{mod-mul}
 use lib.Signed.{mag}
 use Rattle.std.proofs.lemmas.Nat.{mul-le}
 use Rattle.std.proofs.lemmas.List.{take_more}
-use Rattle.std.proofs.lemmas.List.FromFn.{take-map-range_with_len, fill_by_all}
-use Rattle.std.specs.List.{range_with_len}
 use Rattle.std.proofs.lemmas.Int.{ints}
 use Rattle.theory.proofs.Texts.{item_short, spaced_push}
 use Rattle.theory.specs.Print.{item, spaced}
@@ -15,11 +13,10 @@ use Rattle.numbers.specs.Kept.{grid_value}
 use Rattle.numbers.specs.Limits.{within, value_count}
 use Rattle.numbers.specs.Model.{numbers_of}
 use Rattle.numbers.specs.Values.{VariableModel, combinations, value}
-use Rattle.numbers.specs.Variables.{texts}
+use Rattle.names.specs.Rosters.{texts}
 use Rattle.numbers.proofs.Bounds.{within_bounds}
 use Rattle.numbers.proofs.Means.{value_is}
 use Rattle.numbers.proofs.Readings.{count_variables}
-use Rattle.numbers.proofs.Rosters.{texts_length}
 
 some_combination : (vs : List VariableModel) → 0 < combinations vs
 some_combination [] = omega arith
@@ -73,11 +70,16 @@ values_short zs small (suc i) h =
       length-append text (item (length text) z),
     )
 
--- the values at the places that are variables are all values of a code
-pub first_values : (t : Numbers) (code : ℕ) → take t.grid.count (map (λ i. grid_value t.grid i code) (range_with_len 0 8)) ≡ all_values (numbers_of t).variables code
-first_values t code =
-    take-map-range_with_len (λ i. grid_value t.grid i code) 0 8 t.grid.count (omega (arith, t.grid.few))
-    ∙ sym (fill_by_all (λ i. grid_value t.grid i code) (all_values (numbers_of t).variables code) t.grid.count (pos 0)
-    (values_length (numbers_of t).variables code ∙ count_variables t)
-    (λ k h. values_at (numbers_of t).variables k code (omega (arith, count_variables t))
-    ∙ value_is (texts t.names) t.grid (texts_length t.names ∙ t.paired) k code h))
+-- one variable more
+module _ (t : Numbers) (code : ℕ) where
+  abbrev values : List ℤ
+  values = all_values (numbers_of t).variables code
+
+  pub values_count : length values ≡ length t.grid.variables.items
+  values_count = values_length (numbers_of t).variables code ∙ count_variables t
+
+  pub value_at : (i : ℕ) → i < length t.grid.variables.items → get_or values i (pos 0) ≡ grid_value t.grid i code
+  value_at i h = values_at (numbers_of t).variables i code (omega (arith, count_variables t)) ∙ value_is (texts t.names) t.grid t.paired i code h
+
+  pub more_values : (i : ℕ) → i < length t.grid.variables.items → take (i + 1) values ≡ take i values ++ grid_value t.grid i code ∷ []
+  more_values i h = take_more values i (pos 0) (omega (arith, values_count)) ∙ ap (λ (z : ℤ). take i values ++ z ∷ []) (value_at i h)

@@ -1,5 +1,5 @@
 -- One value more of a printed text.
-use Rattle.std.proofs.Common.{◌≡◌, ℕ, ◌+◌, ◌^◌, ◌<◌, ◌≤◌, Bool, true, false, cond, eqb, List, [], ◌∷◌, ◌++◌, length, get_or, take, drop, fold, ℤ, pos, Some, take-append-drop, sym, ap, ◌∙◌, ap₂, arith, length-append, w32, SFits, to_z, of_z}
+use Rattle.std.proofs.Common.{◌≡◌, ℕ, ◌+◌, ◌^◌, ◌<◌, ◌≤◌, Bool, true, false, cond, eqb, leb, List, [], ◌∷◌, ◌++◌, length, get_or, take, drop, fold, ℤ, pos, Some, None, Err, inl, inr, take-append-drop, sym, ap, ◌∙◌, ap₂, arith, length-append, w32, SFits, to_z, of_z}
 use lib.Signed.{mag}
 use Rattle.std.proofs.lemmas.Fmt.{length_signed_le}
 use Rattle.std.proofs.lemmas.Int.{to_z-of_z}
@@ -7,9 +7,11 @@ use Rattle.std.proofs.lemmas.List.{take_more}
 use Rattle.std.proofs.lemmas.List.Sums.{fold_push, fold-append}
 use Rattle.std.specs.Fmt.{signed_decimal}
 use Rattle.writer.proofs.Firsts.{room_for}
-use Rattle.writer.proofs.Puts.{fit_leaves, put_put}
+use Rattle.std.proofs.lemmas.Bool.{cond-true, cond-false, lt-ltb, le-ltb, leb-true, leb-false, cases_Bool}
+use Rattle.refusal.specs.declared.Refusal.TheVariants.{BadBuffer}
+use Rattle.writer.proofs.Puts.{fit_answer, fit_leaves, put_put}
 use Rattle.writer.specs.Puts.{put_at, put_answer, put_leaves}
-use Rattle.theory.specs.Print.{item, spaced}
+use Rattle.theory.specs.Print.{item, spaced, print_answer, print_leaves, values_answer, values_leave}
 
 -- a value takes at most its digits, a sign and a space
 item_by : (first : Bool) (z : ℤ) (k : ℕ) → length (signed_decimal z) ≤ k → length (cond first (signed_decimal z) (32 ∷ signed_decimal z)) ≤ k + 1
@@ -75,3 +77,27 @@ module _ (bytes : List ℕ) (values : List ℤ) (i : ℕ) (x : ℤ) (at : ℕ) (
         step.0 ∙ ap (λ (zs : List ℤ). length (spaced zs)) all,
         step.1 ∙ ap (λ (zs : List ℤ). put_at bytes 0 (spaced zs)) all,
       )
+
+  -- a value that does not fit: all of them do not
+  pub print_over : None ≡ put_answer (length out) at (item at (to_z w32 (of_z w32 x))) → length out < length (spaced values)
+  print_over none = elim (cases_Bool (leb (length (spaced values)) (length out))) [
+    | inl room ↦ (
+        let e = none ∙ fit_answer out at (item at (to_z w32 (of_z w32 x))) (print_fits (leb-true _ _ room)) in
+        let z : ◌≡◌ {A = ℕ} 0 1 = cc in absurd (omega arith)
+      )
+    | inr over ↦ leb-false _ _ over
+  ]
+
+-- a text of at most 64 bytes is printed, and a longer one refused
+module _ (codes code : ℕ) (bytes text : List ℕ) where
+  pub short_answer : length text ≤ 64 → values_answer codes code (length bytes) text ≡ print_answer codes code (length bytes) text
+  short_answer h = ap (λ room. print_answer codes code room text) (cond-false _ _ _ (le-ltb 64 (length text) h))
+
+  pub short_leaves : length text ≤ 64 → values_leave codes code bytes text ≡ print_leaves codes code bytes text
+  short_leaves h = cond-false _ _ _ (le-ltb 64 (length text) h)
+
+  pub long_answer : code < codes → 64 < length text → values_answer codes code (length bytes) text ≡ Err BadBuffer
+  long_answer exists h = ap (λ room. print_answer codes code room text) (cond-true _ _ _ (lt-ltb 64 (length text) h)) ∙ cond-true _ _ _ (lt-ltb code codes exists)
+
+  pub long_leaves : 64 < length text → values_leave codes code bytes text ≡ bytes
+  long_leaves h = cond-true _ _ _ (lt-ltb 64 (length text) h)

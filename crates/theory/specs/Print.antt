@@ -20,3 +20,10 @@ print_answer codes code room text = cond (nat_lt code codes) (cond (nat_lt room 
 -- the text over the first bytes; a refused call leaves all bytes as they were
 abbrev pub print_leaves : (codes code : ℕ) (bytes text : List ℕ) → List ℕ
 print_leaves codes code bytes text = cond (nat_lt code codes) (cond (nat_lt (length bytes) 64) bytes (put_at bytes 0 text)) bytes
+
+-- the same where the text may be over 64 bytes: 9 for such a text too
+abbrev pub values_answer : (codes code room : ℕ) (text : List ℕ) → Result ℕ Refusal
+values_answer codes code room text = print_answer codes code (cond (nat_lt 64 (length text)) 0 room) text
+
+abbrev pub values_leave : (codes code : ℕ) (bytes text : List ℕ) → List ℕ
+values_leave codes code bytes text = cond (nat_lt 64 (length text)) bytes (print_leaves codes code bytes text)

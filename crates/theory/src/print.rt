@@ -1,6 +1,6 @@
 // Printing the values of a code.
-ghost use Rattle.std.specs.Prelude.{◌≡◌, ℕ, ◌≤◌, List, length, ℤ};
-ghost use Rattle.theory.specs.Print.{item, spaced, print_answer, print_leaves};
+ghost use Rattle.std.specs.Prelude.{◌≡◌, ℕ, List, length, ℤ};
+ghost use Rattle.theory.specs.Print.{item, spaced, print_answer, print_leaves, values_answer, values_leave};
 ghost use Rattle.writer.specs.Puts.{put_answer, put_leaves};
 
 use super::Theory;
@@ -42,21 +42,22 @@ pub fn put_item(out: &mut [u8], at: usize, value: i32) -> Option<usize>
 
 /// Writes the values of a code, separated by one space, and returns their length: what a `print` does.
 ///
-/// Errors: 4 for a code that does not exist, else 9 for a buffer under 64 bytes; nothing is written.
+/// Errors: 4 for a code that does not exist, else 9 for a buffer under 64 bytes or values that take over 64; nothing is written.
 pub fn print_values(codes: u16, code: u16, values: &[i32], out: &mut [u8]) -> Result<usize, Refusal>
-    requires { length (spaced values.now) ≤ 64 }
-    ensures answer { result ≡ print_answer codes code (length out.old) (spaced values.now) }
-    ensures after { out.new ≡ print_leaves codes code out.old (spaced values.now) }
+    ensures answer { result ≡ values_answer codes code (length out.old) (spaced values.now) }
+    ensures after { out.new ≡ values_leave codes code out.old (spaced values.now) }
 {
     if code >= codes {
         return Err(Refusal::NoSuchCode);
     }
+    let mut text = [0; PRINT_ROOM];
+    let mut at = 0;
+    for value in values {
+        at = put_item(&mut text, at, *value).ok_or(Refusal::BadBuffer)?;
+    }
     if out.len() < PRINT_ROOM {
         return Err(Refusal::BadBuffer);
     }
-    let mut at = 0;
-    for value in values {
-        at = put_item(out, at, *value).unwrap();
-    }
+    out[..at].copy_from_slice(&text[..at]);
     Ok(at)
 }

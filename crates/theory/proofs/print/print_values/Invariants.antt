@@ -1,10 +1,10 @@
-use Rattle.std.proofs.Common.{◌≡◌, length, take}
+use Rattle.std.proofs.Common.{◌≡◌, ◌≤◌, length, replicate, take}
 use Rattle.writer.specs.Puts.{put_at}
 use Rattle.theory.specs.Print.{spaced}
 use Rattle.theory.proofs.print.print_values.Given as goal
 
--- the first values are written
+-- the first values are written into the text
 abbrev pub invariant-loop-value : goal.invariant-loop-value
 invariant-loop-value l =
     let text = spaced (take l.value-index l.values) in
-    (l.at ≡ length text) × (l.out ≡ put_at l.initial.out 0 text)
+    (l.at ≡ length text) × (l.text ≡ put_at (replicate 64 0) 0 text) × (l.at ≤ 64)
