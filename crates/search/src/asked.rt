@@ -14,7 +14,7 @@ use intern::Cell;
 use ltlf::Book;
 use successors::NextLabel;
 use theory::{Next, Theory};
-use viability::some_sound;
+use viability::Visit;
 
 /// What is asked: which histories begin with the kept visits and meet the book.
 #[derive(Drop)]
@@ -43,7 +43,12 @@ impl<T: Theory> Space for Asked<'_, '_, '_, T> {
             return false;
         }
         let truth = truth_at(self.theory, self.book.atom_count(), row.code, Next::Last);
-        some_sound(self.book, row.label, truth, true)
+        let visit = Visit {
+            book: self.book,
+            truth,
+            last: true,
+        };
+        visit.some_sound(row.label)
     }
 
     fn begin(&self, rows: &mut [Cell<Row>]) -> Option<usize> {

@@ -12,11 +12,12 @@ use crate::layers::enter;
 use intern::Cell;
 use ltlf::Book;
 use successors::{NextLabel, next_labels};
+use viability::Visit;
 
 /// Which atoms hold, and how many next labels there are then.
 #[derive(Clone, Copy, Drop)]
 pub(crate) struct Pattern {
-    pub(crate) truth: u32,
+    pub(crate) truth: u64,
     pub(crate) count: usize,
 }
 
@@ -26,7 +27,7 @@ pub(crate) struct Pattern {
 pub(crate) fn labels_for(
     book: &Book,
     label: u64,
-    truth: u32,
+    truth: u64,
     cells: &mut [Cell<NextLabel>],
     known: Option<Pattern>,
 ) -> Option<Pattern>
@@ -38,7 +39,12 @@ pub(crate) fn labels_for(
             return known;
         }
     }
-    let count = next_labels(book, label, truth, false, cells)?;
+    let visit = Visit {
+        book,
+        truth,
+        last: false,
+    };
+    let count = next_labels(&visit, label, cells)?;
     Some(Pattern { truth, count })
 }
 

@@ -1,5 +1,5 @@
 -- A member that can hand on only what the next label has may be dropped; what is handed on whatever is chosen may be put there at once.
-use Rattle.std.proofs.Common.{◌≡◌, ℕ, zero, suc, ◌+◌, ◌^◌, ◌<◌, ◌≤◌, ◌⊎◌, ◌↔◌, List, length, get_or, refl, subst, inl, inr, arith}
+use Rattle.std.proofs.Common.{◌≡◌, ℕ, zero, suc, ◌+◌, ◌^◌, ◌<◌, ◌≤◌, ◌⊎◌, ◌↔◌, length, refl, subst, inl, inr, arith}
 use native.Mathlib.Decide.{ℕ_discrete}
 use lib.Bits.{bit_or, bit_xor}
 use Rattle.ltlf.specs.Contents.{Contents, Proper}
@@ -18,9 +18,9 @@ use Rattle.successors.specs.Ways.{Reaches, Musts}
 use Rattle.successors.proofs.Handing.{hands_down, hands_up}
 
 -- N' is N with formulas that members of S hand on whatever is chosen
-pub record Forced (xs : List ℕ) (S N N' : ℕ) : Type 0 where
+pub record Forced (xs : ℕ → ℕ) (S N N' : ℕ) : Type 0 where
   pub kept : Inside N N'
-  pub new : (g : ℕ) → g ∈ N' → (g ∈ N) ⊎ ((f : ℕ) × ((f ∈ S) × (g ∈ get_or xs f 0)))
+  pub new : (g : ℕ) → g ∈ N' → (g ∈ N) ⊎ ((f : ℕ) × ((f ∈ S) × (g ∈ xs f)))
 
 -- a set without k, whether k is in it or not
 off : ℕ → ℕ → ℕ
@@ -51,10 +51,10 @@ module _ (w : Moment) (b : Contents) (pr : Proper b) (V : ℕ) (vi : Viable w b 
       below x (member m) = un x m
       below x (part {f = y} sp' a) = let l : x < y = part_before b pr y (κ y) x a in let l' = below y sp' in omega arith
 
-  module _ (rs : List ℕ) (re : Reaches w b V rs (length b.nodes)) where
+  module _ (rs : ℕ → ℕ) (re : Reaches w b V rs (length b.nodes)) where
     -- the members of K can only hand on what N has
     abbrev Idle : ℕ → ℕ → Type 0
-    Idle K N = (f : ℕ) → f ∈ K → (g : ℕ) → g ∈ get_or rs f 0 → g ∈ N
+    Idle K N = (f : ℕ) → f ∈ K → (g : ℕ) → g ∈ rs f → g ∈ N
 
     split : (κ : Choice) (S K T : ℕ) → Union S K T → (f : ℕ) → Expansion b κ T f → Expansion b κ S f ⊎ Expansion b κ K f
     split κ S K T u f (member m) = elim ((u f).0 m) [ inl x ↦ inl (member x) | inr x ↦ inr (member x) ]
@@ -64,7 +64,7 @@ module _ (w : Moment) (b : Contents) (pr : Proper b) (V : ℕ) (vi : Viable w b 
     expansion_up κ S T i f (member m) = member (i f m)
     expansion_up κ S T i g (part {f = f} sp a) = part (expansion_up κ S T i f sp) a
 
-    idle_expansion : (κ : Choice) (K N : ℕ) → Under K (length b.nodes) → SoundAt w b κ K → Idle K N → (f : ℕ) → Expansion b κ K f → (g : ℕ) → g ∈ get_or rs f 0 → g ∈ N
+    idle_expansion : (κ : Choice) (K N : ℕ) → Under K (length b.nodes) → SoundAt w b κ K → Idle K N → (f : ℕ) → Expansion b κ K f → (g : ℕ) → g ∈ rs f → g ∈ N
     idle_expansion κ K N un so id f (member m) g h = id f m g h
     idle_expansion κ K N un so id f (part {f = y} sp a) g h =
         let r = expansion_fits κ K un so y sp in
@@ -205,8 +205,8 @@ module _ (w : Moment) (b : Contents) (pr : Proper b) (V : ℕ) (vi : Viable w b 
             (λ f x g y. elim ((opens K f).0 x) [ inl p ↦ id f p.0 g y | inr a ↦ id j m g (re' g (inr (f, (a, y)))) ])
             h)
 
-  module _ (ms : List ℕ) (mu : Musts w b V ms (length b.nodes)) where
-    must_later : (κ : Choice) (S : ℕ) → Under S (length b.nodes) → SoundAt w b κ S → (d f : ℕ) → f < d → Expansion b κ S f → (g : ℕ) → g ∈ get_or ms f 0 → HandedOn b κ S g
+  module _ (ms : ℕ → ℕ) (mu : Musts w b V ms (length b.nodes)) where
+    must_later : (κ : Choice) (S : ℕ) → Under S (length b.nodes) → SoundAt w b κ S → (d f : ℕ) → f < d → Expansion b κ S f → (g : ℕ) → g ∈ ms f → HandedOn b κ S g
     must_later κ S un so zero f lt sp g m = absurd (omega arith)
     must_later κ S un so (suc d) f lt sp g m =
         let r = expansion_fits κ S un so f sp in

@@ -1,31 +1,24 @@
 // The expansion, from the greatest open member down.
 ghost use Rattle.std.specs.Prelude.{◌≡◌, ◌<◌, ◌≤◌, length};
-ghost use Rattle.ltlf.specs.Contents.{book_contents};
-ghost use Rattle.viability.specs.Moments.{moment};
 ghost use Rattle.viability.specs.Offers.{Inside};
+ghost use Rattle.viability.specs.Visits.{moment_at, contents_at};
 ghost use Rattle.successors.specs.Cells.{Taken, Filled};
 ghost use Rattle.successors.specs.Handing.{Hands, ListsNext};
-ghost use Rattle.successors.specs.Tables.{Kept, Keeps};
-ghost use Rattle.successors.specs.Ways.{Guided};
+ghost use Rattle.successors.specs.Sights.{IsGuided, HandsAt, KeptAt, KeepsAt};
 
+use super::guide::{Guide, fill, gathered, guide_at, top};
 use super::label::NextLabel;
 use super::sink::enter;
 use super::table::{State, remember, seen};
-use super::ways::{Ways, fill, gathered, top, ways_at};
 use intern::Cell;
-use ltlf::Book;
-use viability::{inside, known_part, viable, without};
+use viability::{Visit, inside, known_part, without};
 
-/// What an expansion looks at: the book, what holds at the visit, and the masks that were made of them.
+/// What an expansion looks at: the visit, its viable formulas, and their guides.
 #[derive(Clone, Copy)]
-struct Sight<'a> {
-    book: &'a Book,
-    truth: u32,
-    last: bool,
-    able: u64,
-    ways: &'a [Ways],
-    reach: &'a [u64],
-    must: &'a [u64],
+pub struct Sight<'a> {
+    pub(crate) visit: Visit<'a>,
+    pub(crate) able: u64,
+    pub(crate) guides: &'a [Guide; 64],
 }
 
 /// Enters what is handed on from a state: the members that are still to be expanded, and the next label so far.
@@ -33,120 +26,98 @@ struct Sight<'a> {
 /// A member that can hand on only what the next label has is dropped; what a way hands on whatever is chosen goes into
 /// the next label at once; a state that is done is passed over.
 fn expand(
-    sight: Sight,
+    sight: &Sight,
     members: u64,
     next: u64,
     cells: &mut [Cell<NextLabel>],
     filled: usize,
-    table: &mut [State],
+    table: &mut [Option<State>],
 ) -> Option<usize>
-    requires { (Guided (moment sight.truth sight.last) (book_contents sight.book.now) sight.able sight.ways.now sight.reach.now sight.must.now) × ((Inside members sight.able) × ((Taken cells.old filled) × (Kept (moment sight.truth sight.last) (book_contents sight.book.now) table.old cells.old filled))) }
-    ensures fills { Filled (Hands (moment sight.entry.truth sight.entry.last) (book_contents sight.entry.book.now) members next) cells.old cells.new filled result }
-    ensures keeps { Keeps (moment sight.entry.truth sight.entry.last) (book_contents sight.entry.book.now) table.new cells.new result }
+    requires guided { IsGuided sight.now }
+    requires viable { Inside members sight.now.able }
+    requires taken { Taken cells.old filled }
+    requires kept { KeptAt sight.now table.old cells.old filled }
+    ensures fills { Filled (HandsAt sight.now members next) cells.old cells.new filled result }
+    ensures keeps { KeepsAt sight.now table.new cells.new result }
 {
     if members == 0 {
         return enter(cells, filled, next);
     }
     let number = top(members);
     let rest = without(members, number);
-    if inside(sight.reach[number as usize], next) {
+    let guide = guide_at(sight.guides, number);
+    if inside(guide.span.reach, next) {
         return expand(sight, rest, next, cells, filled, table);
     }
-    let on = ways_at(sight.ways, number);
-    let opened = rest | on.first.parts;
-    let handed = next | on.first.handed;
-    if !on.forked {
-        return expand(sight, opened, handed, cells, filled, table);
-    }
-    if seen(table, number, members, next) {
+    let first = guide.ways.first;
+    let Some(second) = guide.ways.second else {
+        return expand(
+            sight,
+            rest | first.parts,
+            next | first.handed,
+            cells,
+            filled,
+            table,
+        );
+    };
+    let state = State { members, next };
+    if seen(table, number, state) {
         return Some(filled);
     }
-    let by_first = gathered(sight.must, on.first.parts);
-    let Some(more) = expand(sight, opened, handed | by_first, cells, filled, table) else {
-        return None;
-    };
-    let by_second = gathered(sight.must, on.second.parts);
-    let forced = next | on.second.handed | by_second;
-    let Some(all) = expand(sight, rest | on.second.parts, forced, cells, more, table) else {
-        return None;
-    };
-    remember(table, number, members, next);
+    let by_first = next | first.handed | gathered(sight.guides, first.parts).must;
+    let more = expand(sight, rest | first.parts, by_first, cells, filled, table)?;
+    let by_second = next | second.handed | gathered(sight.guides, second.parts).must;
+    let all = expand(sight, rest | second.parts, by_second, cells, more, table)?;
+    remember(table, number, state);
     Some(all)
 }
 
-/// Expands with a table of 4,096 states.
-fn expand_forked(
-    sight: Sight,
+/// Expands with a table of `N` states.
+fn expand_with<const N: usize>(
+    sight: &Sight,
     members: u64,
     next: u64,
     cells: &mut [Cell<NextLabel>],
 ) -> Option<usize>
-    requires { (Guided (moment sight.truth sight.last) (book_contents sight.book.now) sight.able sight.ways.now sight.reach.now sight.must.now) × (Inside members sight.able) }
-    ensures { Filled (Hands (moment sight.entry.truth sight.entry.last) (book_contents sight.entry.book.now) members next) cells.old cells.new 0 result }
+    requires guided { IsGuided sight.now }
+    requires viable { Inside members sight.now.able }
+    requires fits { N ≤ 4096 }
+    ensures { Filled (HandsAt sight.now members next) cells.old cells.new 0 result }
 {
-    let mut table = [State {
-        used: false,
-        members: 0,
-        next: 0,
-    }; 4096];
+    let mut table = [None; N];
     expand(sight, members, next, cells, 0, &mut table)
 }
 
-/// Expands with next to no table, where few formulas fork.
-fn expand_plain(
-    sight: Sight,
-    members: u64,
-    next: u64,
-    cells: &mut [Cell<NextLabel>],
-) -> Option<usize>
-    requires { (Guided (moment sight.truth sight.last) (book_contents sight.book.now) sight.able sight.ways.now sight.reach.now sight.must.now) × (Inside members sight.able) }
-    ensures { Filled (Hands (moment sight.entry.truth sight.entry.last) (book_contents sight.entry.book.now) members next) cells.old cells.new 0 result }
-{
-    let mut table = [State {
-        used: false,
-        members: 0,
-        next: 0,
-    }; 1];
-    expand(sight, members, next, cells, 0, &mut table)
-}
-
-/// Enters into the cells, from the first on, every next label that a sound choice of the label hands on, each once and
-/// no other, where the atoms of `truth` hold and the visit is the last or not; returns their number.
+/// Enters into the cells, from the first on, every next label that a sound choice of the label hands on at the visit,
+/// each once and no other; returns their number.
 ///
 /// Formulas that the book does not have are passed over. None where the cells are full and another label is left.
-pub fn next_labels(
-    book: &Book,
-    label: u64,
-    truth: u32,
-    last: bool,
-    cells: &mut [Cell<NextLabel>],
-) -> Option<usize>
-    ensures { ListsNext (book_contents book.now) truth last label cells.old cells.new result }
+pub fn next_labels(visit: &Visit, label: u64, cells: &mut [Cell<NextLabel>]) -> Option<usize>
+    ensures { ListsNext (contents_at visit.now) visit.now.truth visit.now.last label cells.old cells.new result }
 {
-    let members = known_part(book, label);
+    let members = known_part(visit.book, label);
     if members == 0 {
         return enter(cells, 0, 0);
     }
-    let able = viable(book, truth, last);
+    let able = visit.viable();
     if !inside(members, able) {
         return Some(0);
     }
-    let mut ways = [Ways::none(); 64];
-    let mut reach = [0; 64];
-    let mut must = [0; 64];
-    let forks = fill(book, truth, last, able, &mut ways, &mut reach, &mut must);
-    let given = gathered(&must, members);
+    let mut guides = [Guide::NONE; 64];
+    fill(visit, able, &mut guides);
+    let given = gathered(&guides, members).must;
+    let forks = guides
+        .iter()
+        .filter(|guide| guide.ways.second.is_some())
+        .count();
     let sight = Sight {
-        book,
-        truth,
-        last,
+        visit: *visit,
         able,
-        ways: &ways,
-        reach: &reach,
-        must: &must,
+        guides: &guides,
     };
+    // Clearing a large table costs time, which few forks do not bring in again.
     if forks > 6 {
-        return expand_forked(sight, members, given, cells);
+        return expand_with::<4096>(&sight, members, given, cells);
     }
-    expand_plain(sight, members, given, cells)
+    expand_with::<1>(&sight, members, given, cells)
 }

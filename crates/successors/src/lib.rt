@@ -4,6 +4,7 @@
 #![tactic(auto)]
 
 mod expand;
+mod guide;
 mod label;
 mod sink;
 mod table;

@@ -1,22 +1,20 @@
 -- What the bits of a label say.
-use Rattle.std.proofs.Common.{◌≡◌, ℕ, zero, suc, ◌/◌, ◌%◌, ◌^◌, ◌<◌, ◌≤◌, Bool, true, false, eqb, ◌⊎◌, ◌↔◌, List, [], ◌∷◌, Decides, sym, refl, ap, ◌∙◌, subst, inl, inr, ⊎_elim, lt_of_lt_of_le, mod-eq_of_lt, arith, pow_mono}
+use Rattle.std.proofs.Common.{◌≡◌, ℕ, zero, suc, ◌/◌, ◌%◌, ◌^◌, ◌<◌, ◌≤◌, Bool, cond, ◌⊎◌, ◌↔◌, List, [], ◌∷◌, Decides, sym, refl, ap, ◌∙◌, subst, inl, inr, ⊎_elim, lt_of_lt_of_le, mod-eq_of_lt, arith, pow_mono}
 use mathlib.Core.Path.{subst⁻¹}
 use native.Mathlib.Nat.{div-eq_of_lt}
-use lib.Bits.{bit_and, bit_or, bit_xor, xor_shr, xor_mod, and_mask}
+use lib.Bits.{bit_or, bit_xor, xor_shr, xor_mod}
 use Rattle.std.proofs.lemmas.Nat.{pow_pos}
-use Rattle.std.proofs.lemmas.Bool.{cases_lt, eqb-true, eq-eqb, both_ways}
+use Rattle.std.proofs.lemmas.Bool.{cases_lt, eqb-true, eq-eqb}
 use Rattle.judge.specs.Formulas.{Among}
-use Rattle.tableau.specs.Labels.{◌∈◌, has}
+use Rattle.masks.specs.Masks.{has, excluding, within}
+use Rattle.tableau.specs.Labels.{◌∈◌}
 use Rattle.tableau.proofs.Masks.{zero_has, bit_has, or_has, same_members, has?}
 use Rattle.viability.specs.Offers.{Inside, Without, label_of}
 
-pub and_one : (n : ℕ) → bit_and n 1 ≡ n % 2
-and_one n = and_mask n 1
-
--- the test of a bit
-pub tests_bit : (L k : ℕ) (r : Bool) → r ≡ eqb (bit_and (L / 2 ^ k) 1) 1 → Decides r (k ∈ L)
+-- the tests of the masks decide what they test
+pub decides_has : (L k : ℕ) (r : Bool) → r ≡ has L k → Decides r (k ∈ L)
 unfolding ◌∈◌
-tests_bit L k r e = ((λ t. sym (and_one _) ∙ eqb-true _ _ (sym e ∙ t)), (λ h. e ∙ eq-eqb _ _ (and_one _ ∙ h)))
+decides_has L k r e = ((λ t. eqb-true _ _ (sym e ∙ t)), (λ h. e ∙ eq-eqb _ _ h))
 
 -- a label below 2 ^ n has no number from n on
 pub in_below : (L n i : ℕ) → L < 2 ^ n → i ∈ L → i < n
@@ -61,6 +59,9 @@ label_has f (g ∷ gs) = (
   ],
 )
 
+pub decides_inside : (a c : ℕ) (r : Bool) → r ≡ within a c → Decides r (Inside a c)
+decides_inside a c r e = ((λ t. (inside_or a c).0 (eqb-true _ _ (sym e ∙ t))), (λ h. e ∙ eq-eqb _ _ ((inside_or a c).1 h)))
+
 -- a label's members are in V exactly if the formulas it was made of are
 pub inside_parts : (ps : List ℕ) (m V : ℕ) → m ≡ label_of ps → Inside m V ↔ ((g : ℕ) → Among g ps → g ∈ V)
 inside_parts ps m V e = (
@@ -97,6 +98,12 @@ without_xor S k top f =
 pub without_none : (S k : ℕ) → (k ∈ S → ⊥) → Without S k S
 without_none S k out f = ((λ m. (m, λ z. out (subst (λ (x : ℕ). x ∈ S) z m))), (λ p. p.0))
 
+pub excluding_is : (S k R : ℕ) → R ≡ excluding S k → Without S k R
+excluding_is S k R e = subst⁻¹ (Without S k) e (elim (has? S k) [
+  | inl p ↦ subst⁻¹ (λ (b : Bool). Without S k (cond b (bit_xor S (2 ^ k)) S)) p.0 (without_xor S k p.1)
+  | inr p ↦ subst⁻¹ (λ (b : Bool). Without S k (cond b (bit_xor S (2 ^ k)) S)) p.0 (without_none S k p.1)
+])
+
 -- the members of L % 2 ^ n are those of L below n
 pub in_low : (L n f : ℕ) → f ∈ (L % 2 ^ n) → f < n
 in_low L n f m = (let p : 0 < 2 ^ n = pow_pos n in in_below (L % 2 ^ n) n f (omega (arith, p)) m)
@@ -104,15 +111,3 @@ in_low L n f m = (let p : 0 < 2 ^ n = pow_pos n in in_below (L % 2 ^ n) n f (ome
 -- a label of at most n formulas is its own part below n
 pub low_all : (L k n : ℕ) → L < 2 ^ k → k ≤ n → L ≡ L % 2 ^ n
 low_all L k n lt le = sym (mod-eq_of_lt (lt_of_lt_of_le lt (pow_mono le)))
-
-falses : (r : Bool) → (r ≡ true → ⊥) → r ≡ false
-falses true h = absurd (h refl)
-falses false h = refl
-
--- a test that decides membership is the test
-pub is_has : (L k : ℕ) (r : Bool) → Decides r (k ∈ L) → r ≡ has L k
-is_has L k r d = elim (has? L k) [ inl p ↦ d.1 p.1 ∙ sym p.0 | inr p ↦ falses r (λ e. p.1 (d.0 e)) ∙ sym p.0 ]
-
--- a label below 2 ^ n has no formula from n on
-pub has_none : (L n k : ℕ) → L < 2 ^ n → n ≤ k → Decides false (k ∈ L)
-has_none L n k lt le = ((λ e. absurd (both_ways false refl e)), (λ m. absurd (omega (arith, in_below L n k lt m))))

@@ -1,17 +1,23 @@
 -- A label has a sound choice exactly if its members are viable.
-use Rattle.std.proofs.Common.{◌≡◌, ℕ, zero, suc, ◌+◌, ◌^◌, ◌<◌, Bool, ◌↔◌, length, subst, ⊎_elim, arith}
+use Rattle.std.proofs.Common.{◌≡◌, ℕ, zero, suc, ◌+◌, ◌^◌, ◌<◌, Bool, true, false, ◌↔◌, length, Decides, refl, ◌∙◌, subst, ⊎_elim, arith, Some, None, Option}
 use mathlib.Core.Path.{subst⁻¹}
 use native.Mathlib.Decide.{ℕ_discrete}
 use lib.Bits.{bit_or}
+use Rattle.std.specs.Bool.{then_some}
+use Rattle.std.proofs.lemmas.Bool.{false≢true}
+use Rattle.masks.specs.Masks.{including}
+use Rattle.masks.proofs.Bits.{including_is}
 use Rattle.ltlf.specs.Contents.{Contents, Proper}
+use Rattle.judge.specs.Formulas.{node_at}
 use Rattle.tableau.specs.Labels.{◌∈◌}
-use Rattle.tableau.specs.Expansion.{Side, one, other, Choice, Expansion, member, part}
+use Rattle.tableau.specs.Expansion.{Side, one, other, Choice, parts, Expansion, member, part}
 use Rattle.tableau.proofs.Masks.{zero_has, member?}
 use Rattle.tableau.proofs.Steps.{part_before}
-use Rattle.viability.specs.Moments.{Moment, SoundAt, SomeSound, moment}
-use Rattle.viability.specs.Offers.{Inside, Under}
-use Rattle.viability.specs.Viable.{Fits, FitsSomehow, Viable, ViableBelow, known_part, Tells}
-use Rattle.viability.proofs.Bits.{in_or_left, in_with, with_has, in_low}
+use Rattle.viability.specs.declared.offer.Offer.{Offer}
+use Rattle.viability.specs.Moments.{Moment, Admits, SoundAt, SomeSound, moment}
+use Rattle.viability.specs.Offers.{Inside, Under, OffersSide, BringsInside}
+use Rattle.viability.specs.Viable.{Fits, FitOffered, FitsSomehow, Viable, ViableBelow, known_part, Tells}
+use Rattle.viability.proofs.Bits.{in_or_left, in_with, with_has, in_low, inside_parts}
 use Rattle.viability.proofs.Shown.{sound_shown}
 
 module _ (w : Moment) (b : Contents) (pr : Proper b) (V : ℕ) (vi : Viable w b V) where
@@ -89,8 +95,8 @@ module _ (w : Moment) (b : Contents) (pr : Proper b) where
       lower : (g : ℕ) → g < f → f < k + 1 → g ∈ bit_or V (2 ^ k) → g ∈ V
       lower g l h m = ⊎_elim (λ x. x) (λ (e : g ≡ k). absurd (omega arith)) (in_with V k g m)
 
-  pub viable_with : (V W k : ℕ) → W ≡ bit_or V (2 ^ k) → FitsSomehow w b V k → ViableBelow w b V k → ViableBelow w b W (k + 1)
-  viable_with V W k e fit vi = subst⁻¹ (λ (x : ℕ). ViableBelow w b x (k + 1)) e (viable_or V k fit vi)
+  pub viable_with : (V W k : ℕ) → k < 64 → W ≡ including V k → FitsSomehow w b V k → ViableBelow w b V k → ViableBelow w b W (k + 1)
+  viable_with V W k lt e fit vi = subst⁻¹ (λ (x : ℕ). ViableBelow w b x (k + 1)) (e ∙ including_is V k lt) (viable_or V k fit vi)
 
   pub viable_skip : (V k : ℕ) → (FitsSomehow w b V k → ⊥) → ViableBelow w b V k → ViableBelow w b V (k + 1)
   viable_skip V k none vi f = (
@@ -105,3 +111,16 @@ module _ (w : Moment) (b : Contents) (pr : Proper b) where
 pub fits_other : (w : Moment) (b : Contents) (V k : ℕ) → (Fits w b V k one → ⊥) → FitsSomehow w b V k → Fits w b V k other
 fits_other w b V k out (one, h) = absurd (out h)
 fits_other w b V k out (other, h) = h
+
+-- an admitted offer whose parts are in V is that of a side that fits, and another is not
+pub fit_offered : (w : Moment) (b : Contents) (V k : ℕ) (s : Side) (o : Offer) (i : Bool) (r : Option Offer) → Admits w (node_at b k) s
+    → OffersSide k (node_at b k) s o → Decides i (Inside o.parts V) → r ≡ then_some i o → FitOffered w b V k s r
+fit_offered w b V k s o true r ok is d e =
+    subst⁻¹ (FitOffered w b V k s) e ((ok, (inside_parts (parts (node_at b k) s) o.parts V is.parts_are).0 (d.0 refl)), is)
+fit_offered w b V k s o false r ok is d e =
+    subst⁻¹ (FitOffered w b V k s) e (λ fit. false≢true (d.1 ((inside_parts (parts (node_at b k) s) o.parts V is.parts_are).1 fit.1)))
+
+-- a side that fits brings in members of V alone
+pub fit_brings : (w : Moment) (b : Contents) (V k : ℕ) (s : Side) (r : Option Offer) → FitOffered w b V k s r → Fits w b V k s → BringsInside V r
+fit_brings w b V k s (Some o) (fit, is) h = (inside_parts (parts (node_at b k) s) o.parts V is.parts_are).1 fit.1
+fit_brings w b V k s None out h = out h

@@ -1,3 +1,4 @@
 pub mod Moments
 pub mod Offers
 pub mod Viable
+pub mod Visits

@@ -1,5 +1,5 @@
 -- What a member of an expansion asks and brings on one of its sides, as labels.
-use Rattle.std.specs.Prelude.{◌≡◌, ℕ, ◌^◌, ◌<◌, ◌↔◌, List, [], ◌∷◌, Decides, ◌≢◌, bit_or}
+use Rattle.std.specs.Prelude.{◌≡◌, ℕ, ◌^◌, ◌<◌, ◌↔◌, List, [], ◌∷◌, Some, None, Option, ◌≢◌, bit_or}
 use Rattle.ltlf.specs.declared.node.Node.{Node}
 use Rattle.ltlf.specs.declared.node.Node.TheVariants.{True, False, Atom, NotAtom, And, Or, Tomorrow, WeakTomorrow, Until, Release}
 use Rattle.tableau.specs.Labels.{Label, ◌∈◌}
@@ -31,11 +31,20 @@ Under L n = (f : ℕ) → f ∈ L → f < n
 abbrev pub Without : Label → (formula : ℕ) → Label → Type 0
 Without L k K = (f : ℕ) → (f ∈ K) ↔ ((f ∈ L) × (f ≢ k))
 
--- The offer of the formula with a number on a side: whether it is admitted, its parts, and what it hands on.
-pub record Offered (w : Moment) (number : ℕ) (node : Node) (s : tableau.Side) (o : Offer) : Type 0 where
-  pub admitted_is : Decides o.admitted (Admits w node s)
+-- the offer has the parts of a side, and what the side hands on
+pub record OffersSide (number : ℕ) (node : Node) (s : tableau.Side) (o : Offer) : Type 0 where
   pub parts_are : o.parts ≡ label_of (tableau.parts node s)
   pub handed_are : o.handed ≡ label_of (tableau.handed_on number node s)
+
+-- The offer of the formula with a number on a side: none exactly where it is not admitted, and otherwise its parts, and what it hands on.
+abbrev pub Offered : Moment → (number : ℕ) → Node → tableau.Side → Option Offer → Type 0
+Offered w number node s (Some o) = Admits w node s × OffersSide number node s o
+Offered w number node s None = ¬ (Admits w node s)
+
+-- there is an offer, and its parts are in V
+abbrev pub BringsInside : Label → Option Offer → Type 0
+BringsInside V (Some o) = Inside o.parts V
+BringsInside V None = ⊥
 
 -- the operands of a node are below n
 abbrev pub OperandsBelow : (n : ℕ) → Node → Type 0

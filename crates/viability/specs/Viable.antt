@@ -1,15 +1,21 @@
 -- The formulas that have a sound expansion.
-use Rattle.std.specs.Prelude.{ℕ, ◌%◌, ◌^◌, ◌<◌, Bool, ◌↔◌, length, Decides}
+use Rattle.std.specs.Prelude.{ℕ, ◌%◌, ◌^◌, ◌<◌, Bool, ◌↔◌, length, Some, None, Option, Decides}
 use Rattle.ltlf.specs.Contents.{Contents}
 use Rattle.judge.specs.Formulas.{node_at, Among}
 use Rattle.tableau.specs.Labels.{Label, ◌∈◌}
 use Rattle.tableau.specs.Expansion.{Side, parts}
+use Rattle.viability.specs.declared.offer.Offer.{Offer}
 use Rattle.viability.specs.Moments.{Moment, Admits, SomeSound, Shows}
-use Rattle.viability.specs.Offers.{Inside, Under}
+use Rattle.viability.specs.Offers.{Inside, Under, OffersSide}
 
 -- a side of a formula fits: it is admitted, and its parts are in V
 abbrev pub Fits : Moment → Contents → Label → (formula : ℕ) → Side → Type 0
 Fits w b V f s = Admits w (node_at b f) s × ((g : ℕ) → Among g (parts (node_at b f) s) → g ∈ V)
+
+-- the offer of a side that fits, and none where the side does not
+abbrev pub FitOffered : Moment → Contents → Label → (formula : ℕ) → Side → Option Offer → Type 0
+FitOffered w b V f s (Some o) = Fits w b V f s × OffersSide f (node_at b f) s o
+FitOffered w b V f s None = ¬ (Fits w b V f s)
 
 -- some side of a formula fits
 abbrev pub FitsSomehow : Moment → Contents → Label → (formula : ℕ) → Type 0

@@ -1,5 +1,5 @@
-// Labels: sets of formula numbers below 64, as the bits of a number.
-ghost use Rattle.std.specs.Prelude.{◌≡◌, ◌%◌, ◌^◌, ◌<◌, ◌≤◌, length, Decides, bit_or};
+// Labels: sets of formula numbers below 64, as masks; what the tests of masks say of a label's formulas.
+ghost use Rattle.std.specs.Prelude.{◌≡◌, ◌%◌, ◌^◌, ◌<◌, ◌≤◌, length, Decides};
 ghost use Rattle.ltlf.specs.Contents.{book_contents};
 ghost use Rattle.tableau.specs.Labels.{◌∈◌};
 ghost use Rattle.viability.specs.Offers.{Inside, Without};
@@ -11,35 +11,21 @@ use ltlf::Book;
 pub fn contains(label: u64, number: u8) -> bool
     ensures { Decides result (number ∈ label) }
 {
-    if number >= 64 {
-        return false;
-    }
-    (label >> number) & 1 == 1
-}
-
-/// The label with one more formula.
-pub(crate) fn with(label: u64, number: u8) -> u64
-    requires { number < 64 }
-    ensures { result ≡ bit_or label (2 ^ number) }
-{
-    label | (1 << number)
+    masks::contains(label, number)
 }
 
 /// The label without one formula.
 pub fn without(label: u64, number: u8) -> u64
     ensures { Without label number result }
 {
-    if !contains(label, number) {
-        return label;
-    }
-    label ^ (1 << number)
+    masks::without(label, number)
 }
 
 /// Whether every formula of `label` is one of `others`.
 pub fn inside(label: u64, others: u64) -> bool
     ensures { Decides result (Inside label others) }
 {
-    label | others == others
+    masks::inside(label, others)
 }
 
 /// The formulas of a label that the book has.

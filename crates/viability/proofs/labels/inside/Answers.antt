@@ -1,6 +1,5 @@
-use Rattle.std.proofs.lemmas.Bool.{eqb-true, eq-eqb}
-use Rattle.viability.proofs.Bits.{inside_or}
+use Rattle.viability.proofs.Bits.{decides_inside}
 use Rattle.viability.proofs.labels.inside.Goals as goal
 
 pub returns : goal.returns
-returns c = ((λ e. (inside_or _ _).0 (eqb-true _ _ e)), (λ h. eq-eqb _ _ ((inside_or _ _).1 h)))
+returns c = decides_inside c.args.label c.args.others _ c.inside.ensures
