@@ -1,4 +1,4 @@
-use Rattle.std.proofs.Common.{◌≡◌, ℕ, ◌+◌, ◌^◌, true, false, ap, ◌∙◌, sym, subst, bit_or, arith, rules}
+use Rattle.std.proofs.Common.{◌≡◌, ℕ, ◌+◌, true, false, ap, ◌∙◌, sym, subst, arith, rules}
 use Rattle.masks.specs.Masks.{including}
 use Rattle.masks.proofs.Bits.{including_is}
 use Rattle.std.specs.Result.{result_unwrap_or}
