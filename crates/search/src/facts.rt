@@ -3,6 +3,7 @@ ghost use Rattle.std.specs.Prelude.{◌≡◌, ◌<◌, ◌≤◌, true};
 ghost use Rattle.search.specs.Questions.{Shown};
 ghost use Rattle.theory.specs.Meaning.{next_exists};
 
+use masks::with;
 use theory::{Next, Theory};
 
 /// The atoms that hold at `code` when `next` comes next, of the first `atoms`.
@@ -13,7 +14,7 @@ pub(crate) fn truth_at<T: Theory>(theory: &T, atoms: u8, code: u16, next: Next) 
     let mut truth = 0;
     for atom in 0..atoms {
         if theory.holds(atom, code, next).unwrap_or(false) {
-            truth |= 1 << atom;
+            truth = with(truth, atom);
         }
     }
     truth

@@ -1,4 +1,6 @@
-use Rattle.std.proofs.Common.{◌≡◌, ℕ, ◌+◌, ◌^◌, true, false, ap, ◌∙◌, sym, subst, bit_or, arith, rules}
+use Rattle.std.proofs.Common.{◌≡◌, ℕ, ◌+◌, true, false, ap, ◌∙◌, sym, subst, arith, rules}
+use Rattle.masks.specs.Masks.{including}
+use Rattle.masks.proofs.Bits.{including_is}
 use Rattle.std.specs.Result.{result_unwrap_or}
 use Rattle.search.specs.Questions.{Shown}
 use Rattle.search.proofs.Masking.{fact_read, shown_none, shown_with, shown_without}
@@ -18,7 +20,8 @@ loop-atom-preserved g c =
     elim c.if-unwrap_or.branch [
       | then-unwrap_or w ↦
           (let held : c.unwrap_or.result ≡ true = search rules in
-          let more : c.if-unwrap_or.truth ≡ bit_or c.loop-atom.truth (2 ^ atom) = search rules in
+          let is : c.if-unwrap_or.truth ≡ including c.loop-atom.truth atom = search rules in
+          let more = is ∙ including_is c.loop-atom.truth atom (omega arith) in
           shown_with m c.args.code c.args.next _ _ _ c.loop-atom.invariant (sym read ∙ held) more)
       | else-unwrap_or w ↦
           (let fails : c.unwrap_or.result ≡ false = search rules in
