@@ -5,7 +5,7 @@ ghost use Rattle.flags.specs.Ranges.{flags_ranges};
 
 use super::flags::Flags;
 use refusal::Refusal;
-use theory::{Next, Theory};
+use theory::Theory;
 
 // Bit `i` of a code.
 fn bit_of(code: u16, i: u8) -> bool
@@ -28,7 +28,7 @@ impl Theory for Flags {
         self.atoms.len() as u8
     }
 
-    fn holds(&self, atom: u8, code: u16, next: Next) -> Result<bool, Refusal> {
+    fn holds(&self, atom: u8, code: u16, next: Option<u16>) -> Result<bool, Refusal> {
         theory::check_within(self.code_count(), self.atom_count(), atom, code, next)?;
         let flag = self.atoms[atom as usize];
         Ok(bit_of(code, flag))

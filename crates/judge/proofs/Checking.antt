@@ -1,9 +1,9 @@
 -- What the check of a history says.
+use Rattle.std.specs.Prelude.{Option}
 use Rattle.std.proofs.Common.{◌≡◌, ℕ, suc, ◌<◌, ◌≤◌, true, ltb, List, length, Ok, sym, ap, ◌∙◌, ⊎_elim, arith}
 use Rattle.std.proofs.lemmas.Bool.{cases_lt, ltb-true, lt-ltb, eqb-true, and_parts}
 use Rattle.std.proofs.lemmas.Bool.Decides.{nat_tests}
 use Rattle.theory.specs.Meaning.{Meaning, next_exists}
-use Rattle.theory.specs.declared.next.Next.{Next}
 use Rattle.ltlf.specs.Contents.{Contents, Proper}
 use Rattle.ltlf.specs.Nodes.{known}
 use Rattle.ltlf.specs.declared.node.Node.{Node}
@@ -23,7 +23,7 @@ module _ (m : Meaning) (b : Contents) (σ : List ℕ) (passed : judge_check m b 
   pub visit_exists : (i : ℕ) → i < length σ → visit σ i < m.codes
   visit_exists i h = ltb-true _ _ (pass_at (λ c. ltb c m.codes) σ 0 i h parts.3)
 
-  pub after_exists : (i : ℕ) (next : Next) → i < length σ → next ≡ after σ i → next_exists m.codes next ≡ true
+  pub after_exists : (i : ℕ) (next : Option ℕ) → i < length σ → next ≡ after σ i → next_exists m.codes next ≡ true
   after_exists i next h is =
       ⊎_elim
       (λ (more : suc i < length σ). ap (next_exists m.codes) (is ∙ after_code σ i more) ∙ lt-ltb _ _ (visit_exists (suc i) more))

@@ -1,10 +1,10 @@
 -- One visit's pass over the formulas, in the order of their numbers.
+use Rattle.std.specs.Prelude.{Option}
 use Rattle.std.proofs.Common.{◌≡◌, ℕ, suc, ◌+◌, ◌^◌, ◌<◌, ◌≤◌, Bool, true, false, List, length, Decides, sym, refl, ap, ◌∙◌, subst, ⊎_elim, arith}
 use lib.Bits.{bit_or}
 use Rattle.std.proofs.lemmas.Bool.{cases_eq, false≢true, both_ways}
 use Rattle.std.proofs.lemmas.Bool.Decides.{Decides-at}
 use Rattle.theory.specs.Meaning.{Meaning}
-use Rattle.theory.specs.declared.next.Next.{Next}
 use Rattle.ltlf.specs.Contents.{Contents, Proper}
 use Rattle.ltlf.specs.declared.node.Node.{Node}
 use Rattle.judge.specs.Formulas.{node_at, formula}
@@ -33,13 +33,13 @@ module _ (m : Meaning) (b : Contents) (σ : List ℕ) (i : ℕ) where
     (λ f h. same f (λ e. omega arith) ∙ above f (omega arith)),
   )
 
-  module _ (pr : Proper b) (within : i < length σ) (here later n code : ℕ) (next : Next) (node : Node)
+  module _ (pr : Proper b) (within : i < length σ) (here later n code : ℕ) (next : Option ℕ) (node : Node)
       (past : suc i < length σ → Marks m b σ (suc i) later)
       (is-code : visit σ i ≡ code) (is-next : after σ i ≡ next) (is-node : node ≡ node_at b n) (put : n < length b.nodes) (so_far : PassedTo m b σ i here n) where
     -- the test of the node of the number n decides whether its formula holds
     tested : (held : Bool) → held ≡ node_held m code next here later n node → Decides held (Holds m σ i (formula b n))
     tested held is_held_lem =
-        let P : ℕ → Next → Node → Type 0 = λ c x y. held ≡ node_held m c x here later n y in
+        let P : ℕ → Option ℕ → Node → Type 0 = λ c x y. held ≡ node_held m c x here later n y in
         let is : P (visit σ i) (after σ i) (node_at b n) =
         subst (λ c. P c (after σ i) (node_at b n)) (sym is-code) (subst (λ x. P code x (node_at b n)) (sym is-next) (subst (λ y. P code next y) is-node is_held_lem)) in
         Decides-at _ _ is
@@ -64,6 +64,6 @@ module _ (m : Meaning) (b : Contents) (σ : List ℕ) (i : ℕ) where
         so_far
 
 -- at every visit with that code and that next, the marks are right below the number n
-abbrev pub PassedAll : Meaning → Contents → (code : ℕ) → Next → (later here n : ℕ) → Type 0
+abbrev pub PassedAll : Meaning → Contents → (code : ℕ) → Option ℕ → (later here n : ℕ) → Type 0
 PassedAll m b c next later here n = (σ : List ℕ) (i : ℕ) → i < length σ → visit σ i ≡ c → after σ i ≡ next
     → (suc i < length σ → Marks m b σ (suc i) later) → PassedTo m b σ i here n

@@ -1,9 +1,7 @@
 -- How the judge computes: a mask marks the numbers of the formulas that hold at a visit, from those that hold at the visit after.
-use Rattle.std.specs.Prelude.{◌≡◌, ℕ, suc, ◌<◌, Bool, true, false, not, ◌&&◌, ◌||◌, List, length, Decides}
+use Rattle.std.specs.Prelude.{Option, Some, None, ◌≡◌, ℕ, suc, ◌<◌, Bool, true, false, not, ◌&&◌, ◌||◌, List, length, Decides}
 use Rattle.masks.specs.Masks.{has}
 use Rattle.theory.specs.Meaning.{Meaning}
-use Rattle.theory.specs.declared.next.Next.{Next}
-use Rattle.theory.specs.declared.next.Next.TheVariants.{Code, Last}
 use Rattle.ltlf.specs.declared.node.Node.{Node}
 use Rattle.ltlf.specs.declared.node.Node.TheVariants.{True, False, Atom, NotAtom, And, Or, Tomorrow, WeakTomorrow, Until, Release}
 use Rattle.ltlf.specs.Contents.{Contents}
@@ -16,12 +14,12 @@ abbrev pub marked : (mask f : ℕ) → Bool
 marked mask f = has mask f
 
 -- whether nothing comes next
-abbrev pub is_last : Next → Bool
-is_last (Code c) = false
-is_last Last = true
+abbrev pub is_last : Option ℕ → Bool
+is_last (Some c) = false
+is_last None = true
 
 -- whether the node of a number holds at a code, from what holds here and at the visit after
-abbrev pub node_held : Meaning → (code : ℕ) → Next → (here later : ℕ) → (number : ℕ) → Node → Bool
+abbrev pub node_held : Meaning → (code : ℕ) → Option ℕ → (here later : ℕ) → (number : ℕ) → Node → Bool
 node_held m c n here later f True = true
 node_held m c n here later f False = false
 node_held m c n here later f (Atom a) = m.fact a c n
@@ -42,6 +40,6 @@ abbrev pub Marks : Meaning → Contents → (σ : List ℕ) → (i mask : ℕ) �
 Marks m b σ i mask = MarksBelow m b σ i mask (length b.nodes)
 
 -- at a visit with that code and that next, the mask is right where the mask of the visit after is
-abbrev pub Passed : Meaning → Contents → (code : ℕ) → Next → (later mask : ℕ) → Type 0
+abbrev pub Passed : Meaning → Contents → (code : ℕ) → Option ℕ → (later mask : ℕ) → Type 0
 Passed m b c n later mask = (σ : List ℕ) (i : ℕ) → i < length σ → visit σ i ≡ c → after σ i ≡ n
     → (suc i < length σ → Marks m b σ (suc i) later) → Marks m b σ i mask

@@ -10,7 +10,7 @@ use super::pass::pass;
 use ltlf::Book;
 use masks::contains;
 use refusal::Refusal;
-use theory::{Next, Theory};
+use theory::Theory;
 
 /// Whether every visit is one of `codes` codes.
 pub fn all_codes(codes: u16, visits: &[u16]) -> bool
@@ -50,10 +50,10 @@ fn first_marks<T: Theory>(theory: &T, book: &Book, visits: &[u16]) -> u64
     ensures { Marks (T.Theory.meaning theory.now) (book_contents book.now) visits.now 0 result }
 {
     let mut marks = 0;
-    let mut next = Next::Last;
+    let mut next = None;
     for code in visits.iter().rev() {
         marks = pass(theory, book, *code, next, marks);
-        next = Next::Code(*code);
+        next = Some(*code);
     }
     marks
 }

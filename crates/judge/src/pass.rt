@@ -4,27 +4,17 @@ ghost use Rattle.theory.specs.Meaning.{next_exists};
 ghost use Rattle.ltlf.specs.Nodes.{known};
 ghost use Rattle.ltlf.specs.Contents.{book_contents};
 ghost use Rattle.judge.specs.Judging.{same_counts};
-ghost use Rattle.judge.specs.Marks.{is_last, node_held, Passed};
+ghost use Rattle.judge.specs.Marks.{node_held, Passed};
 
 use ltlf::{Book, Node};
 use masks::{contains, with};
-use theory::{Next, Theory};
-
-/// Whether nothing comes next.
-fn nothing_next(next: Next) -> bool
-    ensures { result ≡ is_last next }
-{
-    match next {
-        Next::Code(_) => false,
-        Next::Last => true,
-    }
-}
+use theory::Theory;
 
 /// Whether the node of a number holds, from the marks of the formulas that hold here and at the visit after.
 fn node_holds<T: Theory>(
     theory: &T,
     code: u16,
-    next: Next,
+    next: Option<u16>,
     here: u64,
     later: u64,
     number: u8,
@@ -33,7 +23,7 @@ fn node_holds<T: Theory>(
     requires { (known (T.Theory.meaning theory.now).atoms number node ≡ true) × ((code < (T.Theory.meaning theory.now).codes) × (next_exists (T.Theory.meaning theory.now).codes next ≡ true)) }
     ensures { result ≡ node_held (T.Theory.meaning theory.now) code next here later number node }
 {
-    let last = nothing_next(next);
+    let last = next.is_none();
     match node {
         Node::True => true,
         Node::False => false,
@@ -51,7 +41,13 @@ fn node_holds<T: Theory>(
 }
 
 /// The marks of the formulas that hold at a visit, from its code, what comes next, and the marks of those that hold at the visit after.
-pub(crate) fn pass<T: Theory>(theory: &T, book: &Book, code: u16, next: Next, later: u64) -> u64
+pub(crate) fn pass<T: Theory>(
+    theory: &T,
+    book: &Book,
+    code: u16,
+    next: Option<u16>,
+    later: u64,
+) -> u64
     requires counts { same_counts (T.Theory.meaning theory.now) (book_contents book.now) ≡ true }
     requires exist { (code < (T.Theory.meaning theory.now).codes) × (next_exists (T.Theory.meaning theory.now).codes next ≡ true) }
     ensures { Passed (T.Theory.meaning theory.now) (book_contents book.now) code next later result }

@@ -1,8 +1,6 @@
 -- What is read off the kept variables and atoms is what they mean.
 use Rattle.std.proofs.Common.{◌≡◌, ℕ, zero, suc, ◌*◌, ◌/◌, ◌%◌, ◌<◌, Bool, true, false, not, ltb, eqb, List, [], ◌∷◌, length, ℤ, pos, ◌+ℤ◌, ◌*ℤ◌, Some, None, fold, Option, sym, refl, ap, ◌∙◌, ap₂, le_of_suc-le-suc, arith}
 use Rattle.std.proofs.lemmas.Bool.{and_parts, ltb-true, eqb-true}
-use Rattle.theory.specs.declared.next.Next.{Next}
-use Rattle.theory.specs.declared.next.Next.TheVariants as next
 use Rattle.numbers.specs.declared.atom.Atom.{Atom}
 use Rattle.numbers.specs.declared.grid.Grid.{Grid}
 use Rattle.numbers.specs.declared.term.Comparison.{Comparison}
@@ -36,7 +34,7 @@ value_kept (n ∷ ns) (v ∷ vs) (suc i) code e h stand =
     let tail : length ns ≡ length vs = omega arith in
     value_kept ns vs i code tail (le_of_suc-le-suc h) (and_parts (eqb v.span (product vs)) (spans_stand vs) stand).1
 
-picked : (m : Moment) (code n : ℕ) → code_at m code (next.Code n) ≡ Some (read_at m code n)
+picked : (m : Moment) (code n : ℕ) → code_at m code (Some n) ≡ Some (read_at m code n)
 picked moment.Now code n = refl
 picked moment.Next code n = refl
 picked moment.WeakNext code n = refl
@@ -74,20 +72,20 @@ module _ (ns : List (List ℕ)) (g : Grid) (same : length ns ≡ length g.variab
   known t h = ltb-true t.variable variables (and_parts (ltb t.variable variables) (within 1000 t.coefficient) h).0
 
   -- where a code comes next, every term is defined
-  term_is : (code n : ℕ) (t : Term) → term_fits variables t ≡ true → term_value model code (next.Code n) t ≡ Some (amount_of g code n t)
+  term_is : (code n : ℕ) (t : Term) → term_fits variables t ≡ true → term_value model code (Some n) t ≡ Some (amount_of g code n t)
   term_is code n t h =
       ap (times_value model t) (picked t.moment code n)
       ∙ ap (λ z. Some (t.coefficient *ℤ z)) (value_is t.variable (read_at t.moment code n) (known t h))
 
   sum_from : (code n : ℕ) (ts : List Term) (a : ℤ) → terms_fit variables ts ≡ true
-      → fold (λ sum t. plus sum (term_value model code (next.Code n) t)) (Some a) ts ≡ Some (fold (λ sum t. sum +ℤ amount_of g code n t) a ts)
+      → fold (λ sum t. plus sum (term_value model code (Some n) t)) (Some a) ts ≡ Some (fold (λ sum t. sum +ℤ amount_of g code n t) a ts)
   sum_from code n [] a h = refl
   sum_from code n (t ∷ ts) a h =
       let both = and_parts (term_fits variables t) (terms_fit variables ts) h in
-      ap (λ o. fold (λ sum t. plus sum (term_value model code (next.Code n) t)) (plus (Some a) o) ts) (term_is code n t both.0)
+      ap (λ o. fold (λ sum t. plus sum (term_value model code (Some n) t)) (plus (Some a) o) ts) (term_is code n t both.0)
       ∙ sum_from code n ts (a +ℤ amount_of g code n t) both.1
 
-  none_stays : (code : ℕ) (n : Next) (ts : List Term) → fold (λ sum t. plus sum (term_value model code n t)) None ts ≡ None
+  none_stays : (code : ℕ) (n : Option ℕ) (ts : List Term) → fold (λ sum t. plus sum (term_value model code n t)) None ts ≡ None
   none_stays code n [] = refl
   none_stays code n (t ∷ ts) = none_stays code n ts
 
@@ -98,7 +96,7 @@ module _ (ns : List (List ℕ)) (g : Grid) (same : length ns ≡ length g.variab
     judged_so ts None = not (some_strong ts)
 
     abbrev fold_last : Option ℤ → List Term → Option ℤ
-    fold_last o ts = fold (λ sum t. plus sum (term_value model code next.Last t)) o ts
+    fold_last o ts = fold (λ sum t. plus sum (term_value model code None t)) o ts
 
     abbrev fold_sum : ℤ → List Term → ℤ
     fold_sum a ts = fold (λ sum t. sum +ℤ amount_of g code code t) a ts
@@ -112,10 +110,10 @@ module _ (ns : List (List ℕ)) (g : Grid) (same : length ns ≡ length g.variab
         ap (λ z. judged_so ts (fold_last (Some (a +ℤ (k *ℤ z))) ts)) (value_is i code h) ∙ rest (a +ℤ (k *ℤ grid_value g i code))
     ends_step k i moment.Next ts a h rest =
         let first : Term = record { coefficient = k; variable = i; moment = moment.Next } in
-        ap (judged_so (first ∷ ts)) (none_stays code next.Last ts) ∙ sym (strong_stays ts (compared comparison (fold_sum (a +ℤ amount_of g code code first) ts) constant))
+        ap (judged_so (first ∷ ts)) (none_stays code None ts) ∙ sym (strong_stays ts (compared comparison (fold_sum (a +ℤ amount_of g code code first) ts) constant))
     ends_step k i moment.WeakNext ts a h rest =
         let first : Term = record { coefficient = k; variable = i; moment = moment.WeakNext } in
-        ap (judged_so (first ∷ ts)) (none_stays code next.Last ts) ∙ weak_stays ts (compared comparison (fold_sum (a +ℤ amount_of g code code first) ts) constant)
+        ap (judged_so (first ∷ ts)) (none_stays code None ts) ∙ weak_stays ts (compared comparison (fold_sum (a +ℤ amount_of g code code first) ts) constant)
 
     ends : (ts : List Term) → terms_fit variables ts ≡ true → (a : ℤ) → Ends ts moment.Now (Some a) a
     ends [] h a = refl
@@ -124,9 +122,9 @@ module _ (ns : List (List ℕ)) (g : Grid) (same : length ns ≡ length g.variab
         ends_step t.coefficient t.variable t.moment ts a (known t both.0) (ends ts both.1)
 
   -- an atom holds where it is read to hold
-  pub holds_is : (a : Atom) → terms_fit variables a.terms.items ≡ true → (code : ℕ) (n : Next) → atom_holds model code n (atom_of a) ≡ kept_holds g code n a
-  holds_is a fit code (next.Code n) =
+  pub holds_is : (a : Atom) → terms_fit variables a.terms.items ≡ true → (code : ℕ) (n : Option ℕ) → atom_holds model code n (atom_of a) ≡ kept_holds g code n a
+  holds_is a fit code (Some n) =
       ap (judged (atom_of a)) (sum_from code n a.terms.items (pos 0) fit)
-  holds_is a fit code next.Last =
+  holds_is a fit code None =
       ends a.comparison a.constant code a.terms.items fit (pos 0)
       ∙ ap (λ m. at_last m (compared a.comparison (kept_sum g code code a.terms.items) a.constant)) (sym a.marked)

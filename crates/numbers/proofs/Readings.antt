@@ -1,11 +1,10 @@
 -- What is read off a filled theory.
+use Rattle.std.specs.Prelude.{Option}
 use Rattle.std.proofs.Common.{◌≡◌, ℕ, zero, suc, ◌<◌, ◌≤◌, true, false, ◌&&◌, ltb, leb, List, [], ◌∷◌, ◌++◌, map, length, get_or, ℤ, Some, None, Ok, sym, refl, ap, ◌∙◌, le_of_suc-le-suc, arith}
 use Rattle.std.proofs.lemmas.List.{length-map, get_or-map}
 use Rattle.std.proofs.lemmas.Bool.{and_parts, ltb-true, leb-true}
 use Rattle.std.proofs.lemmas.Bool.Decides.{nat_tests}
 use Rattle.names.specs.Rosters.{texts}
-use Rattle.theory.specs.declared.next.Next.{Next}
-use Rattle.theory.specs.declared.next.Next.TheVariants.{Code, Last}
 use Rattle.theory.specs.Meaning.{within}
 use Rattle.numbers.specs.declared.atom.Atom.{Atom}
 use Rattle.numbers.specs.declared.grid.Grid.{Grid}
@@ -20,9 +19,9 @@ use Rattle.numbers.specs.Values.{VariableModel, atom_holds}
 use Rattle.numbers.proofs.Means.{holds_is}
 
 -- a question that was not refused names an atom
-pub atom_exists : (codes atoms atom code : ℕ) (next : Next) → within codes atoms atom code next ≡ Ok tt → atom < atoms
-atom_exists codes atoms atom code (Code n) e = grind (arith, nat_tests)
-atom_exists codes atoms atom code Last e = grind (arith, nat_tests)
+pub atom_exists : (codes atoms atom code : ℕ) (next : Option ℕ) → within codes atoms atom code next ≡ Ok tt → atom < atoms
+atom_exists codes atoms atom code (Some n) e = grind (arith, nat_tests)
+atom_exists codes atoms atom code None e = grind (arith, nat_tests)
 
 pub named_length : (ns : List (List ℕ)) (bs : List (ℤ × ℤ)) → length ns ≡ length bs → length (named ns bs) ≡ length ns
 named_length [] bs e = refl
@@ -97,7 +96,7 @@ module _ (t : Numbers) where
       → sum_fits (length t.grid.variables.items) (get_or t.atoms.items atom d).terms.items (get_or t.atoms.items atom d).constant ≡ true
   sum_at atom d h = stand_at (length t.grid.variables.items) t.atoms.items atom d h t.known
 
-  pub fact_is : (atom code : ℕ) (next : Next) (d : Atom) → atom < length t.atoms.items
+  pub fact_is : (atom code : ℕ) (next : Option ℕ) (d : Atom) → atom < length t.atoms.items
       → kept_holds t.grid code next (get_or t.atoms.items atom d) ≡ (numbers_meaning (numbers_of t)).fact atom code next
   fact_is atom code next d h =
       let n = length t.grid.variables.items in

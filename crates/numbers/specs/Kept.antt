@@ -1,8 +1,6 @@
 -- What is kept for speed, and what is read off it.
 use Rattle.std.specs.Prelude.{ℕ, zero, suc, ◌*◌, ◌/◌, ◌%◌, Bool, true, false, cond, ◌&&◌, List, [], ◌∷◌, map, length, ℤ, pos, ◌+ℤ◌, ◌*ℤ◌, Some, None, fold, Option, nat_le, nat_lt}
 use Rattle.std.specs.List.{list_all}
-use Rattle.theory.specs.declared.next.Next.{Next}
-use Rattle.theory.specs.declared.next.Next.TheVariants as next
 use Rattle.numbers.specs.declared.term.Moment.{Moment}
 use Rattle.numbers.specs.declared.term.Moment.TheVariants as moment
 use Rattle.numbers.specs.declared.term.Comparison.{Comparison}
@@ -111,6 +109,6 @@ at_last moment.Next plain = false
 at_last moment.WeakNext plain = true
 
 -- whether a kept atom holds at a code, by what comes next
-abbrev pub kept_holds : Grid → (code : ℕ) → Next → Atom → Bool
-kept_holds g code (next.Code n) a = kept_compared g code n a
-kept_holds g code next.Last a = at_last a.strength (kept_compared g code code a)
+abbrev pub kept_holds : Grid → (code : ℕ) → Option ℕ → Atom → Bool
+kept_holds g code (Some n) a = kept_compared g code n a
+kept_holds g code None a = at_last a.strength (kept_compared g code code a)

@@ -1,7 +1,5 @@
 -- The values of variables, terms and sums, and when an atom holds.
 use Rattle.std.specs.Prelude.{ℕ, zero, suc, ◌*◌, ◌/◌, ◌%◌, Bool, true, false, not, ◌&&◌, ◌||◌, List, [], ◌∷◌, ℤ, pos, ◌+ℤ◌, ◌*ℤ◌, Some, None, fold, Option, int_le, int_lt}
-use Rattle.theory.specs.declared.next.Next.{Next}
-use Rattle.theory.specs.declared.next.Next.TheVariants as next
 use Rattle.numbers.specs.declared.term.Moment.{Moment}
 use Rattle.numbers.specs.declared.term.Moment.TheVariants as moment
 use Rattle.numbers.specs.declared.term.Comparison.{Comparison}
@@ -33,12 +31,12 @@ value (v ∷ vs) zero code = v.low +ℤ pos (code / combinations vs % value_coun
 value (v ∷ vs) (suc i) code = value vs i code
 
 -- the code at a moment; none at the next moment where nothing comes next
-abbrev pub code_at : Moment → (code : ℕ) → Next → Option ℕ
+abbrev pub code_at : Moment → (code : ℕ) → Option ℕ → Option ℕ
 code_at moment.Now code n = Some code
-code_at moment.Next code (next.Code n) = Some n
-code_at moment.Next code next.Last = None
-code_at moment.WeakNext code (next.Code n) = Some n
-code_at moment.WeakNext code next.Last = None
+code_at moment.Next code (Some n) = Some n
+code_at moment.Next code None = None
+code_at moment.WeakNext code (Some n) = Some n
+code_at moment.WeakNext code None = None
 
 -- a coefficient times the value of a variable at a code, where there is a code
 abbrev pub times_value : List VariableModel → Term → Option ℕ → Option ℤ
@@ -46,7 +44,7 @@ times_value vs t (Some code) = Some (t.coefficient *ℤ value vs t.variable code
 times_value vs t None = None
 
 -- the value of a term, which is defined unless a next is asked where nothing comes next
-abbrev pub term_value : List VariableModel → (code : ℕ) → Next → Term → Option ℤ
+abbrev pub term_value : List VariableModel → (code : ℕ) → Option ℕ → Term → Option ℤ
 term_value vs code n t = times_value vs t (code_at t.moment code n)
 
 -- the sum of two values, where both are defined
@@ -56,7 +54,7 @@ plus (Some a) None = None
 plus (Some a) (Some b) = Some (a +ℤ b)
 
 -- the sum of the terms, where all are defined
-abbrev pub sum_value : List VariableModel → (code : ℕ) → Next → List Term → Option ℤ
+abbrev pub sum_value : List VariableModel → (code : ℕ) → Option ℕ → List Term → Option ℤ
 sum_value vs code n ts = fold (λ sum t. plus sum (term_value vs code n t)) (Some (pos 0)) ts
 
 -- whether a sum is equal to, less than or at most a constant
@@ -82,5 +80,5 @@ judged a (Some sum) = compared a.comparison sum a.constant
 judged a None = not (some_strong a.terms)
 
 -- whether an atom holds at a code when a code, or nothing, comes next
-abbrev pub atom_holds : List VariableModel → (code : ℕ) → Next → AtomModel → Bool
+abbrev pub atom_holds : List VariableModel → (code : ℕ) → Option ℕ → AtomModel → Bool
 atom_holds vs code n a = judged a (sum_value vs code n a.terms)

@@ -3,7 +3,7 @@ ghost use Rattle.numbers.specs.Model.{numbers_of, numbers_meaning, numbers_range
 
 use super::numbers::Numbers;
 use refusal::Refusal;
-use theory::{Next, Theory};
+use theory::Theory;
 
 impl Theory for Numbers {
     ghost meaning = { λ t. numbers_meaning (numbers_of t) };
@@ -18,7 +18,7 @@ impl Theory for Numbers {
         self.atoms.len() as u8
     }
 
-    fn holds(&self, atom: u8, code: u16, next: Next) -> Result<bool, Refusal> {
+    fn holds(&self, atom: u8, code: u16, next: Option<u16>) -> Result<bool, Refusal> {
         theory::check_within(self.grid.codes, self.atom_count(), atom, code, next)?;
         Ok(self.atoms[atom as usize].holds(&self.grid, code, next))
     }

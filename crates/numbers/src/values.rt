@@ -7,7 +7,6 @@ ghost use Rattle.numbers.specs.Values.{compared};
 use super::atom::Atom;
 use super::grid::Grid;
 use super::term::{Comparison, Moment, Term};
-use theory::Next;
 
 impl Grid {
     /// The value of a variable in a code.
@@ -73,14 +72,14 @@ impl Atom {
     }
 
     /// Whether the atom holds at `code` when `next` comes next.
-    pub(crate) fn holds(&self, grid: &Grid, code: u16, next: Next) -> bool
+    pub(crate) fn holds(&self, grid: &Grid, code: u16, next: Option<u16>) -> bool
         requires few { length self.now.terms.items ≤ 4 }
         requires fit { terms_fit (length grid.now.variables.items) self.now.terms.items ≡ true }
         ensures { result ≡ kept_holds grid.now code next self.now }
     {
         let read = match next {
-            Next::Code(n) => n,
-            Next::Last => match self.strength {
+            Some(n) => n,
+            None => match self.strength {
                 Moment::Now => code,
                 Moment::Next => return false,
                 Moment::WeakNext => return true,

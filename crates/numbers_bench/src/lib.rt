@@ -9,7 +9,7 @@ ghost use Rattle.numbers_bench.specs.Counts.{as_one, facts_from, facts_in};
 
 use numbers::{Comparison, Moment, Numbers, Term};
 use refusal::Refusal;
-use theory::{Next, Theory};
+use theory::Theory;
 
 /// 1 for the answer yes.
 fn as_one(answer: Result<bool, Refusal>) -> u32
@@ -27,7 +27,7 @@ fn row<T: Theory>(theory: &T, atom: u8, code: u16) -> u32
 {
     let mut count = 0;
     for n in 0..theory.code_count() {
-        count += as_one(theory.holds(atom, code, Next::Code(n)));
+        count += as_one(theory.holds(atom, code, Some(n)));
     }
     count
 }

@@ -5,7 +5,7 @@
 mod tests {
     use numbers::{Comparison, Moment, Numbers, Term};
     use std::test::Fail;
-    use theory::{Next, Printable, Theory};
+    use theory::{Printable, Theory};
 
     fn term(coefficient: i32, variable: u8, moment: Moment) -> Term {
         Term {
@@ -60,8 +60,8 @@ mod tests {
     fn a_coefficient_of_zero_still_marks_its_atom(rt: HostRuntime) -> Result<(), Fail> {
         let mut t = Numbers::with_variable(b"t", 0, 2)?;
         t.add_atom(&[term(0, 0, Moment::Next)], Comparison::AtMost, 0)?;
-        assert_eq!(rt; t.holds(0, 1, Next::Code(2))?, true);
-        assert_eq!(rt; t.holds(0, 1, Next::Last)?, false);
+        assert_eq!(rt; t.holds(0, 1, Some(2))?, true);
+        assert_eq!(rt; t.holds(0, 1, None)?, false);
         Ok(())
     }
 
@@ -74,9 +74,9 @@ mod tests {
         t.add_atom(&least, Comparison::Equal, -40_000_000)?;
         t.add_atom(&least, Comparison::Less, -40_000_000)?;
         assert!(rt; t.add_atom(&most, Comparison::Equal, 40_000_001).is_err());
-        assert_eq!(rt; t.holds(0, 0, Next::Last)?, true);
-        assert_eq!(rt; t.holds(1, 0, Next::Last)?, true);
-        assert_eq!(rt; t.holds(2, 0, Next::Last)?, false);
+        assert_eq!(rt; t.holds(0, 0, None)?, true);
+        assert_eq!(rt; t.holds(1, 0, None)?, true);
+        assert_eq!(rt; t.holds(2, 0, None)?, false);
         Ok(())
     }
 
@@ -99,14 +99,14 @@ mod tests {
             9,
         )?;
         t.add_atom(&[term(1, 0, Moment::Now)], Comparison::Equal, 2)?;
-        assert_eq!(rt; t.holds(0, 0, Next::Code(1))?, true);
-        assert_eq!(rt; t.holds(0, 0, Next::Last)?, false);
-        assert_eq!(rt; t.holds(1, 0, Next::Code(0))?, false);
-        assert_eq!(rt; t.holds(1, 0, Next::Last)?, true);
-        assert_eq!(rt; t.holds(2, 0, Next::Code(2))?, true);
-        assert_eq!(rt; t.holds(2, 0, Next::Last)?, false);
-        assert_eq!(rt; t.holds(3, 2, Next::Last)?, true);
-        assert!(rt; t.holds(4, 0, Next::Last).is_err());
+        assert_eq!(rt; t.holds(0, 0, Some(1))?, true);
+        assert_eq!(rt; t.holds(0, 0, None)?, false);
+        assert_eq!(rt; t.holds(1, 0, Some(0))?, false);
+        assert_eq!(rt; t.holds(1, 0, None)?, true);
+        assert_eq!(rt; t.holds(2, 0, Some(2))?, true);
+        assert_eq!(rt; t.holds(2, 0, None)?, false);
+        assert_eq!(rt; t.holds(3, 2, None)?, true);
+        assert!(rt; t.holds(4, 0, None).is_err());
         Ok(())
     }
 }

@@ -1,7 +1,6 @@
 -- Small rules at the last visit, where the operators differ.
-use Rattle.std.specs.Prelude.{◌≡◌, ℕ, ◌<◌, true, false, ◌↔◌, List, [], ◌∷◌, length}
+use Rattle.std.specs.Prelude.{None, ◌≡◌, ℕ, ◌<◌, true, false, ◌↔◌, List, [], ◌∷◌, length}
 use Rattle.theory.specs.Meaning.{Meaning}
-use Rattle.theory.specs.declared.next.Next.TheVariants.{Last}
 use Rattle.formula_text.specs.Grammar.{Written, constant, atom, negation, single, finally, globally, pair}
 use Rattle.formula_text.specs.declared.operator.One.TheVariants.{Tomorrow, WeakTomorrow}
 use Rattle.formula_text.specs.declared.operator.Two.TheVariants.{Until}
@@ -13,7 +12,7 @@ HoldsAlone m c w = WrittenHolds m (c ∷ []) 0 w
 
 -- an atom's fact is there at a code with nothing next
 abbrev pub Fact : Meaning → (code atom : ℕ) → Type 0
-Fact m c a = m.fact a c Last ≡ true
+Fact m c a = m.fact a c None ≡ true
 
 -- what rules say of a history of one visit, in every theory
 pub record AtTheLastVisit (m : Meaning) (c a : ℕ) : Type 0 where

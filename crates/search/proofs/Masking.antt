@@ -1,11 +1,11 @@
 -- The mask of the atoms that hold.
+use Rattle.std.specs.Prelude.{Option}
 use Rattle.std.proofs.Common.{◌≡◌, ℕ, ◌+◌, ◌^◌, ◌<◌, Bool, true, false, Result, sym, refl, ap, ◌∙◌, subst, inl, inr, arith}
 use lib.Bits.{bit_or}
 use Rattle.std.proofs.lemmas.Bool.{cases_eq, both_ways, cond-true, and_from, lt-ltb}
 use Rattle.std.specs.Result.{result_unwrap_or}
 use Rattle.refusal.specs.declared.Refusal.{Refusal}
 use Rattle.theory.specs.Meaning.{Meaning, next_exists, unless_refused, answer}
-use Rattle.theory.specs.declared.next.Next.{Next}
 use Rattle.judge.specs.Marks.{is_last}
 use Rattle.tableau.specs.Labels.{◌∈◌, has}
 use Rattle.tableau.proofs.Masks.{zero_has, has?}
@@ -14,13 +14,13 @@ use Rattle.viability.specs.Moments.{Shows}
 use Rattle.search.specs.Questions.{Shown, facts_at}
 
 -- what is read of an atom that exists, at a code and before a next that do
-pub fact_read : (m : Meaning) (a c : ℕ) (n : Next) → a < m.atoms → c < m.codes → next_exists m.codes n ≡ true
+pub fact_read : (m : Meaning) (a c : ℕ) (n : Option ℕ) → a < m.atoms → c < m.codes → next_exists m.codes n ≡ true
     → result_unwrap_or (answer m a c n) false ≡ m.fact a c n
 fact_read m a c n atom code next =
     ap (λ (r : Result (Unit {0}) Refusal). result_unwrap_or (unless_refused r (m.fact a c n)) false)
     (cond-true _ _ _ (lt-ltb a m.atoms atom) ∙ cond-true _ _ _ (and_from _ _ (lt-ltb c m.codes code) next))
 
-module _ (m : Meaning) (c : ℕ) (n : Next) where
+module _ (m : Meaning) (c : ℕ) (n : Option ℕ) where
   pub shown_none : Shown m c n 0 0
   shown_none a = ((λ i. absurd (zero_has a i)), (λ h. let less = h.0 in absurd (omega arith)))
 

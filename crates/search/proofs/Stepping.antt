@@ -3,7 +3,6 @@ use Rattle.std.proofs.Common.{◌≡◌, ℕ, suc, ◌+◌, ◌^◌, ◌<◌, �
 use Rattle.intern.specs.declared.cell.Cell.{Cell}
 use Rattle.std.specs.declared.ops.Range.{Range}
 use Rattle.theory.specs.Meaning.{Meaning}
-use Rattle.theory.specs.declared.next.Next.TheVariants.{Code, Last}
 use Rattle.ltlf.specs.Contents.{Contents}
 use Rattle.tableau.specs.Labels.{Label}
 use Rattle.tableau.specs.Expansion.{Sound}
@@ -27,39 +26,39 @@ known_whole : (b : Contents) (L : Label) → L < 2 ^ length b.nodes → L ≡ kn
 known_whole b L lt = low_all L (length b.nodes) (length b.nodes) lt (omega arith)
 
 module _ (m : Meaning) (b : Contents) (s : Position) (place n truth : ℕ)
-    (fits : s.label < 2 ^ length b.nodes) (shown : Shown m s.code (Code n) truth b.atoms) where
-  here : Shows (facts_at m s.code (Code n)) b.atoms truth false
-  here = shows m s.code (Code n) truth b.atoms shown
+    (fits : s.label < 2 ^ length b.nodes) (shown : Shown m s.code (Some n) truth b.atoms) where
+  here : Shows (facts_at m s.code (Some n)) b.atoms truth false
+  here = shows m s.code (Some n) truth b.atoms shown
 
-  hands : (q : Label) → HandsOn (facts_at m s.code (Code n)) b (known_part b s.label) q → HandsOn (facts_at m s.code (Code n)) b s.label q
-  hands q h = subst (λ (L : Label). HandsOn (facts_at m s.code (Code n)) b L q) (sym (known_whole b s.label fits)) h
+  hands : (q : Label) → HandsOn (facts_at m s.code (Some n)) b (known_part b s.label) q → HandsOn (facts_at m s.code (Some n)) b s.label q
+  hands q h = subst (λ (L : Label). HandsOn (facts_at m s.code (Some n)) b L q) (sym (known_whole b s.label fits)) h
 
-  unhands : (q : Label) → HandsOn (facts_at m s.code (Code n)) b s.label q → HandsOn (facts_at m s.code (Code n)) b (known_part b s.label) q
-  unhands q h = subst (λ (L : Label). HandsOn (facts_at m s.code (Code n)) b L q) (known_whole b s.label fits) h
+  unhands : (q : Label) → HandsOn (facts_at m s.code (Some n)) b s.label q → HandsOn (facts_at m s.code (Some n)) b (known_part b s.label) q
+  unhands q h = subst (λ (L : Label). HandsOn (facts_at m s.code (Some n)) b L q) (known_whole b s.label fits) h
 
   module _ (cells : List (Cell NextLabel)) (count : ℕ) (next : HoldsNext b s.label truth cells count) where
     pub labelled_steps : (p : Position) → Labelled place n cells count p → StepsFrom m b s place n p
-    labelled_steps p (at, is, i) = (at, is, hands p.label ((next (facts_at m s.code (Code n)) here p.label).0 i))
+    labelled_steps p (at, is, i) = (at, is, hands p.label ((next (facts_at m s.code (Some n)) here p.label).0 i))
 
     pub steps_labelled : (p : Position) → StepsFrom m b s place n p → Labelled place n cells count p
-    steps_labelled p (at, is, h) = (at, is, (next (facts_at m s.code (Code n)) here p.label).1 (unhands p.label h))
+    steps_labelled p (at, is, h) = (at, is, (next (facts_at m s.code (Some n)) here p.label).1 (unhands p.label h))
 
   module _ (cells : List (Cell NextLabel)) (full : Overfull b s.label truth cells) where
     pub other : Label
-    other = (full.another (facts_at m s.code (Code n)) here).0
+    other = (full.another (facts_at m s.code (Some n)) here).0
 
     pub other_missing : In other (labels cells (length cells)) → ⊥
     unfolding other
-    other_missing = (full.another (facts_at m s.code (Code n)) here).2
+    other_missing = (full.another (facts_at m s.code (Some n)) here).2
 
     pub overfull_steps : (p : Position) → LabelledOr other place n cells (length cells) p → StepsFrom m b s place n p
     unfolding other
-    overfull_steps p (inl (at, is, i)) = (at, is, hands p.label (full.only (facts_at m s.code (Code n)) here p.label i))
+    overfull_steps p (inl (at, is, i)) = (at, is, hands p.label (full.only (facts_at m s.code (Some n)) here p.label i))
     overfull_steps p (inr e) = (
       ap (λ (x : Position). x.place) e,
       ap (λ (x : Position). x.code) e,
-      subst (λ (L : Label). HandsOn (facts_at m s.code (Code n)) b s.label L) (sym (ap (λ (x : Position). x.label) e))
-          (hands other (full.another (facts_at m s.code (Code n)) here).1),
+      subst (λ (L : Label). HandsOn (facts_at m s.code (Some n)) b s.label L) (sym (ap (λ (x : Position). x.label) e))
+          (hands other (full.another (facts_at m s.code (Some n)) here).1),
     )
 
 -- what a pattern says of the cells
@@ -70,7 +69,7 @@ pattern_next b L truth cells p (is, (room, next)) = (room, subst (λ (t : ℕ). 
 -- THE STEPS, CODE BY CODE
 
 module _ (from : ℕ) (m : Meaning) (b : Contents) (s : Position) (place first n truth : ℕ)
-    (fits : s.label < 2 ^ length b.nodes) (shown : Shown m s.code (Code n) truth b.atoms)
+    (fits : s.label < 2 ^ length b.nodes) (shown : Shown m s.code (Some n) truth b.atoms)
     (cells : List (Cell NextLabel)) (xs ys zs : List (Cell Row)) (start f : ℕ) (low : first ≤ n)
     (so_far : Collected (λ e. e.from ≡ from) (StepsFrom m b s place) first xs ys start f n) where
   -- one of the labels of the first cells
@@ -139,7 +138,7 @@ module _ (q : Question) where
     some_steps p (n, lo, hi, (there, is, (choice, (sound, next)))) =
         record {
           choice = choice;
-          sound = subst (λ (c : ℕ). Sound q.meaning q.book choice s.label s.code (Code c)) (sym is) sound;
+          sound = subst (λ (c : ℕ). Sound q.meaning q.book choice s.label s.code (Some c)) (sym is) sound;
           label_is = next;
           place_is = there ∙ at;
           code_is = (allowed.2 p.code).1 (omega (arith, lo), omega (arith, hi));
@@ -152,11 +151,11 @@ module _ (q : Question) where
 
   -- a position that ends
   pub ends_decided : (s : Position) (truth : ℕ) (r : Bool) → s.place ≡ last_place q → s.label < 2 ^ length q.book.nodes
-      → Shown q.meaning s.code Last truth q.book.atoms → DecidesSound q.book truth true s.label r → Decides r (Ends q s)
+      → Shown q.meaning s.code None truth q.book.atoms → DecidesSound q.book truth true s.label r → Decides r (Ends q s)
   ends_decided s truth r at fits shown decides =
-      let w = facts_at q.meaning s.code Last in
+      let w = facts_at q.meaning s.code None in
       let d = subst (λ (L : Label). Decides r (SomeSound w q.book L)) (sym (known_whole q.book s.label fits))
-      (decides w (shows q.meaning s.code Last truth q.book.atoms shown)) in (
+      (decides w (shows q.meaning s.code None truth q.book.atoms shown)) in (
         (λ e. let x = d.0 e in record { at_last_place = at; choice = x.0; sound = x.1 }),
         (λ x. d.1 (x.choice, x.sound)),
       )

@@ -3,8 +3,6 @@ use Rattle.std.specs.Prelude.{◌≡◌, ℕ, ◌^◌, ◌<◌, ◌≤◌, true,
 use Rattle.intern.specs.declared.cell.Cell.{Cell}
 use Rattle.std.specs.declared.ops.Range.{Range}
 use Rattle.theory.specs.Meaning.{Meaning}
-use Rattle.theory.specs.declared.next.Next.{Next}
-use Rattle.theory.specs.declared.next.Next.TheVariants.{Code}
 use Rattle.ltlf.specs.Contents.{Contents}
 use Rattle.judge.specs.Formulas.{Among}
 use Rattle.tableau.specs.Labels.{Label, ◌∈◌}
@@ -37,11 +35,11 @@ abbrev pub at_place : (place label code : ℕ) → Position
 at_place p l c = record { place = p; label = l; code = c }
 
 -- the facts at a code and what comes next
-abbrev pub facts_at : Meaning → (code : ℕ) → Next → Moment
+abbrev pub facts_at : Meaning → (code : ℕ) → Option ℕ → Moment
 facts_at m c n = record { meaning = m; code = c; next = n }
 
 -- of the first k atoms, the mask has those that hold
-abbrev pub Shown : Meaning → (code : ℕ) → Next → (mask k : ℕ) → Type 0
+abbrev pub Shown : Meaning → (code : ℕ) → Option ℕ → (mask k : ℕ) → Type 0
 Shown m c n mask k = (a : ℕ) → (a ∈ mask) ↔ ((a < k) × (m.fact a c n ≡ true))
 
 -- the codes of the range are those that may stand at place p
@@ -58,7 +56,7 @@ StartsAt L c p = p ≡ at_place 0 L c
 
 -- the positions at a place and with code n to which a choice of s leads that is sound where n comes next
 abbrev pub StepsFrom : Meaning → Contents → Position → (place n : ℕ) → Position → Type 0
-StepsFrom m b s place n e = (e.place ≡ place) × (e.code ≡ n) × HandsOn (facts_at m s.code (Code n)) b s.label e.label
+StepsFrom m b s place n e = (e.place ≡ place) × (e.code ≡ n) × HandsOn (facts_at m s.code (Some n)) b s.label e.label
 
 -- the positions of a family with a number from a up to n
 abbrev pub SomeOf : (Q : ℕ → Position → Type 0) (a n : ℕ) → Position → Type 0

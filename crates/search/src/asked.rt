@@ -13,7 +13,7 @@ use crate::visits::{last_place, visits_at};
 use intern::Cell;
 use ltlf::Book;
 use successors::NextLabel;
-use theory::{Next, Theory};
+use theory::Theory;
 use viability::Visit;
 
 /// What is asked: which histories begin with the kept visits and meet the book.
@@ -42,7 +42,7 @@ impl<T: Theory> Space for Asked<'_, '_, '_, T> {
         if usize::from(row.place) != last_place(self.kept) {
             return false;
         }
-        let truth = truth_at(self.theory, self.book.atom_count(), row.code, Next::Last);
+        let truth = truth_at(self.theory, self.book.atom_count(), row.code, None);
         let visit = Visit {
             book: self.book,
             truth,

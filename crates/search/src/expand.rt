@@ -12,7 +12,7 @@ use crate::labels::{enter_labels, fill_up, labels_for};
 use intern::Cell;
 use std::ops::Range;
 use successors::NextLabel;
-use theory::{Next, Theory};
+use theory::Theory;
 
 /// Enters what `row` steps to at each code of `visits`, with the place and the origin of `visit`.
 ///
@@ -35,12 +35,7 @@ pub(crate) fn expand_codes<T: Theory>(
     let mut filled = filled;
     let mut known = None;
     for code in visits {
-        let truth = truth_at(
-            asked.theory,
-            asked.book.atom_count(),
-            row.code,
-            Next::Code(code),
-        );
+        let truth = truth_at(asked.theory, asked.book.atom_count(), row.code, Some(code));
         let at = Row { code, ..visit };
         let Some(pattern) = labels_for(asked.book, row.label, truth, cells, known) else {
             fill_up(rows, filled, at, cells);

@@ -4,10 +4,10 @@ ghost use Rattle.search.specs.Questions.{Shown};
 ghost use Rattle.theory.specs.Meaning.{next_exists};
 
 use masks::with;
-use theory::{Next, Theory};
+use theory::Theory;
 
 /// The atoms that hold at `code` when `next` comes next, of the first `atoms`.
-pub(crate) fn truth_at<T: Theory>(theory: &T, atoms: u8, code: u16, next: Next) -> u64
+pub(crate) fn truth_at<T: Theory>(theory: &T, atoms: u8, code: u16, next: Option<u16>) -> u64
     requires { (atoms ≤ 32) × ((atoms ≡ (T.Theory.meaning theory.now).atoms) × ((code < (T.Theory.meaning theory.now).codes) × (next_exists (T.Theory.meaning theory.now).codes next ≡ true))) }
     ensures { Shown (T.Theory.meaning theory.now) code next result atoms }
 {

@@ -6,7 +6,7 @@ use flags::Flags;
 use numbers::Numbers;
 use refusal::Refusal;
 use sheet_text::Heading;
-use theory::{Next, Printable, Theory};
+use theory::{Printable, Theory};
 
 impl SheetTheory {
     /// The theory that a heading names; the other one is let go.
@@ -39,7 +39,7 @@ impl Theory for SheetTheory {
         }
     }
 
-    fn holds(&self, atom: u8, code: u16, next: Next) -> Result<bool, Refusal> {
+    fn holds(&self, atom: u8, code: u16, next: Option<u16>) -> Result<bool, Refusal> {
         match self {
             SheetTheory::Flags(flags) => flags.holds(atom, code, next),
             SheetTheory::Numbers(numbers) => numbers.holds(atom, code, next),

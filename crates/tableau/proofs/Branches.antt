@@ -1,10 +1,9 @@
 -- The branches of a label are the next labels of its sound choices.
+use Rattle.std.specs.Prelude.{Option, Some, None}
 use Rattle.std.proofs.Common.{◌≡◌, ℕ, zero, suc, ◌<◌, ◌≤◌, true, false, cond, ◌⊎◌, ◌↔◌, List, [], length, sym, refl, ◌∙◌, subst, inl, inr, eq-or-lt_of_le, arith}
 use mathlib.Core.Path.{subst⁻¹}
 use native.Mathlib.Decide.{dec_lt, ℕ_discrete}
 use Rattle.theory.specs.Meaning.{Meaning}
-use Rattle.theory.specs.declared.next.Next.{Next}
-use Rattle.theory.specs.declared.next.Next.TheVariants.{Code, Last}
 use Rattle.ltlf.specs.Contents.{Contents, Proper}
 use Rattle.ltlf.specs.declared.node.Node.{Node}
 use Rattle.ltlf.specs.declared.node.Node.TheVariants.{True, False, Atom, NotAtom, And, Or, Tomorrow, WeakTomorrow, Until, Release}
@@ -19,14 +18,14 @@ use Rattle.tableau.proofs.Steps.{part_before}
 use Rattle.tableau.proofs.Masks.{has?, adding_has, zero_has, same_members, expansion_computed, next_ok, past_node, handed_inside}
 use Rattle.tableau.proofs.Tests.{no_way, true_or_not, not_ok, gather_ok, when_ok}
 
-goes_on_ok : (n : Next) → (goes_on n ≡ true) ↔ GoesOn n
-goes_on_ok (Code c) = ((λ e. tt), (λ e. refl))
-goes_on_ok Last = ((λ e. no_way e), (λ e. absurd e))
+goes_on_ok : (n : Option ℕ) → (goes_on n ≡ true) ↔ GoesOn n
+goes_on_ok (Some c) = ((λ e. tt), (λ e. refl))
+goes_on_ok None = ((λ e. no_way e), (λ e. absurd e))
 
 fine : (true ≡ true) ↔ Unit {0}
 fine = ((λ e. tt), (λ e. refl))
 
-pub admitted_ok : (t : Meaning) (c : ℕ) (n : Next) (m : Node) (s : Side) → (admitted t c n m s ≡ true) ↔ Admitted t c n m s
+pub admitted_ok : (t : Meaning) (c : ℕ) (n : Option ℕ) (m : Node) (s : Side) → (admitted t c n m s ≡ true) ↔ Admitted t c n m s
 admitted_ok t c n True s = fine
 admitted_ok t c n False s = ((λ e. no_way e), (λ e. absurd e))
 admitted_ok t c n (Atom a) s = ((λ e. e), (λ e. e))
@@ -40,11 +39,11 @@ admitted_ok t c n (Until x y) other = goes_on_ok n
 admitted_ok t c n (Release x y) s = fine
 
 -- what a side does at a node, done by one of the node's sides
-abbrev Does : Meaning → ℕ → Next → ℕ → Node → Side → Side → Type 0
+abbrev Does : Meaning → ℕ → Option ℕ → ℕ → Node → Side → Side → Type 0
 Does t c n k m s s' =
     (parts m s ≡ parts m s') × (handed_on k m s ≡ handed_on k m s') × (admitted t c n m s ≡ admitted t c n m s')
 
-a_side : (t : Meaning) (c : ℕ) (n : Next) (k : ℕ) (m : Node) (s : Side) → (s' : Side) × In s' (sides m) × Does t c n k m s s'
+a_side : (t : Meaning) (c : ℕ) (n : Option ℕ) (k : ℕ) (m : Node) (s : Side) → (s' : Side) × In s' (sides m) × Does t c n k m s s'
 a_side t c n k True s = (one, inl refl, (refl, refl, refl))
 a_side t c n k False s = (one, inl refl, (refl, refl, refl))
 a_side t c n k (Atom a) s = (one, inl refl, (refl, refl, refl))
@@ -79,7 +78,7 @@ changed_not κ n s f h = go (ℕ_discrete f n)
     go (yes e) = absurd (omega arith)
     go (no h) = refl
 
-module _ (t : Meaning) (b : Contents) (c : ℕ) (n : Next) where
+module _ (t : Meaning) (b : Contents) (c : ℕ) (n : Option ℕ) where
   -- the pass along one choice from k down is sound, and hands on the last label
   data Along (κ : Choice) : ℕ → Label → Label → Label → Type 0 where
     done : {S N : Label} → Along κ zero S N N
@@ -177,7 +176,7 @@ From b κ X k g = (f : ℕ) × (f < k) × (f ∈ X) × Among g (handed_on f (nod
 from_more : (b : Contents) (κ : Choice) (X : Label) (k g : ℕ) → From b κ X k g → From b κ X (suc k) g
 from_more b κ X k g p = (p.0, omega (arith, p.1), p.2, p.3)
 
-module _ (t : Meaning) (b : Contents) (pr : Proper b) (c : ℕ) (n : Next) (κ : Choice) where
+module _ (t : Meaning) (b : Contents) (pr : Proper b) (c : ℕ) (n : Option ℕ) (κ : Choice) where
   abbrev AllAdmitted : ℕ → Label → Type 0
   AllAdmitted k X = (f : ℕ) → f < k → f ∈ X → Admitted t c n (node_at b f) (κ f)
 
@@ -279,7 +278,7 @@ module _ (t : Meaning) (b : Contents) (pr : Proper b) (c : ℕ) (n : Next) (κ :
           let r = ih S N (λ f l m. h'' f (omega arith) m) in
           (r.0, skip e r.1)
 
-module _ (t : Meaning) (b : Contents) (pr : Proper b) (L : Label) (c : ℕ) (n : Next) where
+module _ (t : Meaning) (b : Contents) (pr : Proper b) (L : Label) (c : ℕ) (n : Option ℕ) where
   past_admitted : (f : ℕ) (s : Side) → length b.nodes ≤ f → Admitted t c n (node_at b f) s
   past_admitted f s h = subst⁻¹ (λ (m : Node). Admitted t c n m s) (past_node b.nodes f h) tt
 

@@ -1,8 +1,8 @@
 -- The computed ends, steps and starts are those of the definitions.
+use Rattle.std.specs.Prelude.{Some, None}
 use Rattle.std.proofs.Common.{◌≡◌, ℕ, zero, suc, min, Bool, true, false, cond, ◌&&◌, eqb, ◌↔◌, List, [], ◌∷◌, sym, refl, ap, ◌∙◌, subst, inl, inr, eq-eqb, eqb-true}
 use mathlib.Core.Path.{subst⁻¹}
 use native.Mathlib.Decide.{map_dec}
-use Rattle.theory.specs.declared.next.Next.TheVariants.{Code, Last}
 use Rattle.judge.specs.Formulas.{Among}
 use Rattle.tableau.specs.Labels.{Label, ◌∈◌, adding}
 use Rattle.tableau.specs.Positions.{Position, Question, Starts, Step, Ends, Visited, last_place, In, Distinct}
@@ -24,10 +24,10 @@ same_position s e p l c = λ i. record { place = p i; label = l i; code = c i }
 module _ (q : Question) (posed : WellPosed q) where
   pub ends_ok : (s : Position) → (ends q s ≡ true) ↔ Ends q s
   ends_ok s =
-      let ls = next_labels q.meaning q.book s.label s.code Last in
+      let ls = next_labels q.meaning q.book s.label s.code None in
       let a = and_ok (eqb s.place (last_place q)) (some ls) in
       let o = some_ok ls in
-      let k = sound_choice_ok q.meaning q.book posed.proper s.label s.code Last in (
+      let k = sound_choice_ok q.meaning q.book posed.proper s.label s.code None in (
         (λ e. let r = k.0 (o.0 (a.0 e).1) in record {
           at_last_place = (eqb_ok s.place (last_place q)).0 (a.0 e).0;
           choice = r.0;
@@ -39,13 +39,13 @@ module _ (q : Question) (posed : WellPosed q) where
   pub steps_ok : (s e : Position) → In e (steps q s) ↔ Step q s e
   steps_ok s e =
       let vs = visits_at q.meaning.codes q.kept (suc s.place) in
-      let labels : ℕ → List Label = λ c. next_labels q.meaning q.book s.label s.code (Code c) in
+      let labels : ℕ → List Label = λ c. next_labels q.meaning q.book s.label s.code (Some c) in
       let one : ℕ → Label → List Position = λ c L. record { place = min (suc s.place) (last_place q); label = L; code = c } ∷ [] in
       let inner : ℕ → List Position = λ c. gather (one c) (labels c) in (
         (λ h.
             let r = (gather_ok inner vs e).0 h in
             let r' = (gather_ok (one r.0) (labels r.0) e).0 r.2 in
-            let k = (next_labels_ok q.meaning q.book posed.proper s.label s.code (Code r.0) r'.0).0 r'.1 in
+            let k = (next_labels_ok q.meaning q.book posed.proper s.label s.code (Some r.0) r'.0).0 r'.1 in
             let is : e ≡ record { place = min (suc s.place) (last_place q); label = r'.0; code = r.0 } = elim r'.2 [ inl z ↦ z | inr z ↦ absurd z ] in
             subst⁻¹ (Step q s) is (record {
               choice = k.0;
@@ -60,7 +60,7 @@ module _ (q : Question) (posed : WellPosed q) where
               (visits_ok q.meaning.codes q.kept (suc s.place) e.code).1 st.code_is,
               (gather_ok (one e.code) (labels e.code) e).1 (
                 e.label,
-                (next_labels_ok q.meaning q.book posed.proper s.label s.code (Code e.code) e.label).1
+                (next_labels_ok q.meaning q.book posed.proper s.label s.code (Some e.code) e.label).1
                     (st.choice, st.sound, st.label_is),
                 inl (same_position e (record { place = min (suc s.place) (last_place q); label = e.label; code = e.code }) st.place_is refl refl),
               ),

@@ -1,8 +1,8 @@
 -- The paths of the positions are the histories.
+use Rattle.std.specs.Prelude.{Some, None}
 use Rattle.std.proofs.Common.{◌≡◌, ℕ, zero, suc, pred, ◌+◌, ◌^◌, ◌<◌, ◌≤◌, min, List, [], ◌∷◌, ◌++◌, length, drop, sym, refl, ap, ◌∙◌, subst, subst₂, le_of_suc-le-suc, arith, length-append, drop-cons}
 use mathlib.Core.Path.{subst⁻¹}
 use native.Mathlib.Decide.{dec_lt, dec_le}
-use Rattle.theory.specs.declared.next.Next.TheVariants.{Code, Last}
 use Rattle.judge.specs.Histories.{visit, after, first}
 use Rattle.tableau.specs.Labels.{◌∈◌}
 use Rattle.tableau.specs.Expansion.{GoesOn, Sound}
@@ -54,7 +54,7 @@ codes_cons m c σ h a (suc i) l = a i (omega arith)
 -- FROM PATHS TO HISTORIES
 
 module _ (q : Question) where
-  codes_first : {n : ℕ} {s e : Position} (w : Path q n s e) → first (codes_on w) ≡ Code s.code
+  codes_first : {n : ℕ} {s e : Position} (w : Path q n s e) → first (codes_on w) ≡ Some s.code
   codes_first stay = refl
   codes_first (go h w) = refl
 
@@ -100,13 +100,13 @@ module _ (q : Question) (posed : WellPosed q) (σ : List ℕ) where
       → AllHold q.meaning q.book σ i (λ f. f ∈ s.label)
   path_holds i {s = s} stay en e =
       let d = drop_is σ i s.code [] e in
-      let a : after σ i ≡ Last = ap first d.2 in
+      let a : after σ i ≡ None = ap first d.2 in
       step_sound q.meaning q.book posed.proper σ i d.0 en.choice s.label
       (rw (d.1, a) en.sound)
       (λ l. absurd (subst GoesOn a (inside_code σ i l)))
   path_holds i {s = s} (go {s' = s'} st w) en e =
       let d = drop_is σ i s.code (codes_on w) e in
-      let a : after σ i ≡ Code s'.code = ap first d.2 ∙ codes_first q w in
+      let a : after σ i ≡ Some s'.code = ap first d.2 ∙ codes_first q w in
       step_sound q.meaning q.book posed.proper σ i d.0 st.choice s.label
       (rw (d.1, a) st.sound)
       (λ l g k. path_holds (suc i) w en d.2 g ((st.label_is g).1 k))
@@ -168,7 +168,7 @@ module _ (q : Question) (posed : WellPosed q) (σ : List ℕ) (cs : AllCodes q.m
       let nl = next_ok q.book posed.proper c.0 s.label in
       let p : s.place ≡ min i (pred (length q.kept)) = pl in
       let s' : Position = record { place = min (suc s.place) (pred (length q.kept)); label = next_of q.book c.0 s.label; code = visit σ (suc i) } in
-      let a : after σ i ≡ Code (visit σ (suc i)) = ap first (drop-cons σ (suc i) 0 h') in
+      let a : after σ i ≡ Some (visit σ (suc i)) = ap first (drop-cons σ (suc i) 0 h') in
       let pl' : min (suc s.place) (pred (length q.kept)) ≡ min (suc i) (pred (length q.kept)) = omega arith in
       let r = build n (suc i) s' (omega arith) pl' refl (λ f m. c.2 h' f ((nl f).0 m)) in
       let st : Step q s s' = record {

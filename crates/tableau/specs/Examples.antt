@@ -1,7 +1,5 @@
 -- Questions small enough to answer by hand, with their answers.
-use Rattle.std.specs.Prelude.{◌≡◌, ℕ, zero, suc, Bool, true, false, List, [], ◌∷◌, ◌==◌}
-use Rattle.theory.specs.declared.next.Next.{Next}
-use Rattle.theory.specs.declared.next.Next.TheVariants.{Code, Last}
+use Rattle.std.specs.Prelude.{Option, Some, None, ◌≡◌, ℕ, zero, suc, Bool, true, false, List, [], ◌∷◌, ◌==◌}
 use Rattle.ltlf.specs.declared.node.Node.{Node}
 use Rattle.ltlf.specs.declared.node.Node.TheVariants.{True, False, Atom, NotAtom, And, Tomorrow, WeakTomorrow, Until, Release}
 use Rattle.tableau.specs.Positions.{Question}
@@ -9,28 +7,28 @@ use Rattle.tableau.specs.Continuations.{WellPosed}
 use Rattle.tableau.specs.Search.{Answer, can, cannot, short, answer}
 
 -- One variable `tries` from 0 to 2: atom 0 is tries = 0, atom 1 is tries' = tries + 1 (strong), atom 2 is tries = 2.
-abbrev pub tries_fact : (atom code : ℕ) → Next → Bool
+abbrev pub tries_fact : (atom code : ℕ) → Option ℕ → Bool
 tries_fact zero c n = c == 0
-tries_fact (suc zero) c Last = false
-tries_fact (suc zero) c (Code n) = n == suc c
+tries_fact (suc zero) c None = false
+tries_fact (suc zero) c (Some n) = n == suc c
 tries_fact (suc (suc a)) c n = c == 2
 
 -- One flag: atom 0 is the flag.
-abbrev pub flag_fact : (atom code : ℕ) → Next → Bool
+abbrev pub flag_fact : (atom code : ℕ) → Option ℕ → Bool
 flag_fact a c n = c == 1
 
 -- The atom tries~ = tries + 1 with a weak next, which is true at the last visit.
-abbrev pub weak_fact : (atom code : ℕ) → Next → Bool
-weak_fact a c Last = true
-weak_fact a c (Code n) = n == suc c
+abbrev pub weak_fact : (atom code : ℕ) → Option ℕ → Bool
+weak_fact a c None = true
+weak_fact a c (Some n) = n == suc c
 
 -- The atom tries' = tries + 1 with a strong next, which is false at the last visit.
-abbrev pub strong_fact : (atom code : ℕ) → Next → Bool
-strong_fact a c Last = false
-strong_fact a c (Code n) = n == suc c
+abbrev pub strong_fact : (atom code : ℕ) → Option ℕ → Bool
+strong_fact a c None = false
+strong_fact a c (Some n) = n == suc c
 
 -- a question by its counts, facts, formulas, rules and kept visits
-abbrev pub asked : (codes atoms : ℕ) → ((atom code : ℕ) → Next → Bool) → (nodes : List Node) → (rules kept : List ℕ) → Question
+abbrev pub asked : (codes atoms : ℕ) → ((atom code : ℕ) → Option ℕ → Bool) → (nodes : List Node) → (rules kept : List ℕ) → Question
 asked m a fact nodes rules kept = record {
   meaning = record { codes = m; atoms = a; fact = fact };
   book = record { codes = m; atoms = a; nodes = nodes; rules = rules };
@@ -54,7 +52,7 @@ abbrev pub always_and_not : Question
 always_and_not = flag (False ∷ Atom 0 ∷ Release 0 1 ∷ True ∷ NotAtom 0 ∷ Until 3 4 ∷ And 2 5 ∷ []) (6 ∷ [])
 
 -- G of the formula that the node puts, on three tries
-abbrev pub always : ((atom code : ℕ) → Next → Bool) → Node → Question
+abbrev pub always : ((atom code : ℕ) → Option ℕ → Bool) → Node → Question
 always fact node = asked 3 1 fact (False ∷ node ∷ Release 0 1 ∷ []) (2 ∷ []) []
 
 -- The questions, each with a number of rows and the answer.

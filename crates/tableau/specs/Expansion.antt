@@ -1,8 +1,6 @@
 -- How a label unfolds at one visit: choices, expansions, what they ask of the visit, and what they hand on to the next.
-use Rattle.std.specs.Prelude.{◌≡◌, ℕ, true, false, ◌↔◌, List, [], ◌∷◌}
+use Rattle.std.specs.Prelude.{Option, Some, None, ◌≡◌, ℕ, true, false, ◌↔◌, List, [], ◌∷◌}
 use Rattle.theory.specs.Meaning.{Meaning}
-use Rattle.theory.specs.declared.next.Next.{Next}
-use Rattle.theory.specs.declared.next.Next.TheVariants.{Code, Last}
 use Rattle.ltlf.specs.Contents.{Contents}
 use Rattle.ltlf.specs.declared.node.Node.{Node}
 use Rattle.ltlf.specs.declared.node.Node.TheVariants.{True, False, Atom, NotAtom, And, Or, Tomorrow, WeakTomorrow, Until, Release}
@@ -55,13 +53,13 @@ pub data Expansion (b : Contents) (κ : Choice) (L : Label) : ℕ → Type 0 whe
   part : {f g : ℕ} → Expansion b κ L f → Among g (parts (node_at b f) (κ f)) → Expansion b κ L g
 
 -- a code comes next: the visit is not the last
-abbrev pub GoesOn : Next → Type 0
-GoesOn (Code c) = Unit {0}
-GoesOn Last = ⊥
+abbrev pub GoesOn : Option ℕ → Type 0
+GoesOn (Some c) = Unit {0}
+GoesOn None = ⊥
 
 -- What a member asks of a code and of what comes next: no false, its atom or negated atom holds there,
 -- and an X or a carried U asks that a visit follows; a carried R does not, it is weak.
-abbrev pub Admitted : Meaning → (code : ℕ) → Next → Node → Side → Type 0
+abbrev pub Admitted : Meaning → (code : ℕ) → Option ℕ → Node → Side → Type 0
 Admitted m c n True s = Unit {0}
 Admitted m c n False s = ⊥
 Admitted m c n (Atom a) s = m.fact a c n ≡ true
@@ -75,7 +73,7 @@ Admitted m c n (Until f g) other = GoesOn n
 Admitted m c n (Release f g) s = Unit {0}
 
 -- The choice's expansion is sound at a code and what comes next when each of its members is admitted there.
-abbrev pub Sound : Meaning → Contents → Choice → Label → (code : ℕ) → Next → Type 0
+abbrev pub Sound : Meaning → Contents → Choice → Label → (code : ℕ) → Option ℕ → Type 0
 Sound m b κ L c n = (f : ℕ) → Expansion b κ L f → Admitted m c n (node_at b f) (κ f)
 
 -- some member of the expansion hands formula g on

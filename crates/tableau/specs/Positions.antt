@@ -1,7 +1,6 @@
 -- Positions, the steps between them, and the positions that a search counts.
-use Rattle.std.specs.Prelude.{◌≡◌, ℕ, zero, suc, pred, ◌<◌, ◌≤◌, min, ◌⊎◌, ◌↔◌, List, [], ◌∷◌, length}
+use Rattle.std.specs.Prelude.{Some, None, ◌≡◌, ℕ, zero, suc, pred, ◌<◌, ◌≤◌, min, ◌⊎◌, ◌↔◌, List, [], ◌∷◌, length}
 use Rattle.theory.specs.Meaning.{Meaning}
-use Rattle.theory.specs.declared.next.Next.TheVariants.{Code, Last}
 use Rattle.ltlf.specs.Contents.{Contents}
 use Rattle.judge.specs.Formulas.{Among}
 use Rattle.tableau.specs.Labels.{Label, ◌∈◌}
@@ -39,7 +38,7 @@ pub record Starts (q : Question) (s : Position) : Type 0 where
 -- its choice's expansion is sound at the code left and the code reached.
 pub record Step (q : Question) (s s' : Position) : Type 0 where
   pub choice : Choice
-  pub sound : Sound q.meaning q.book choice s.label s.code (Code s'.code)
+  pub sound : Sound q.meaning q.book choice s.label s.code (Some s'.code)
   pub label_is : IsNextLabel q.book choice s.label s'.label
   pub place_is : s'.place ≡ min (suc s.place) (last_place q)
   pub code_is : Visited q.meaning.codes q.kept (suc s.place) s'.code
@@ -48,7 +47,7 @@ pub record Step (q : Question) (s s' : Position) : Type 0 where
 pub record Ends (q : Question) (s : Position) : Type 0 where
   pub at_last_place : s.place ≡ last_place q
   pub choice : Choice
-  pub sound : Sound q.meaning q.book choice s.label s.code Last
+  pub sound : Sound q.meaning q.book choice s.label s.code None
 
 -- a path of n steps
 pub data Path (q : Question) : ℕ → Position → Position → Type 0 where

@@ -1,8 +1,6 @@
 -- The search layer by layer, as a computation: which answer a question has with a number of rows.
-use Rattle.std.specs.Prelude.{ℕ, zero, suc, min, Bool, true, false, cond, not, ◌&&◌, ◌||◌, List, [], ◌∷◌, ◌++◌, length, ◌==◌, nat_lt}
+use Rattle.std.specs.Prelude.{Option, Some, None, ℕ, zero, suc, min, Bool, true, false, cond, not, ◌&&◌, ◌||◌, List, [], ◌∷◌, ◌++◌, length, ◌==◌, nat_lt}
 use Rattle.theory.specs.Meaning.{Meaning}
-use Rattle.theory.specs.declared.next.Next.{Next}
-use Rattle.theory.specs.declared.next.Next.TheVariants.{Code, Last}
 use Rattle.ltlf.specs.Contents.{Contents}
 use Rattle.ltlf.specs.declared.node.Node.{Node}
 use Rattle.ltlf.specs.declared.node.Node.TheVariants.{True, False, Atom, NotAtom, And, Or, Tomorrow, WeakTomorrow, Until, Release}
@@ -12,12 +10,12 @@ use Rattle.tableau.specs.Expansion.{Side, one, other, parts, handed_on}
 use Rattle.tableau.specs.Positions.{Position, Question, last_place}
 
 -- whether a code comes next
-abbrev pub goes_on : Next → Bool
-goes_on (Code c) = true
-goes_on Last = false
+abbrev pub goes_on : Option ℕ → Bool
+goes_on (Some c) = true
+goes_on None = false
 
 -- whether a member is admitted at a code and what comes next
-abbrev pub admitted : Meaning → (code : ℕ) → Next → Node → Side → Bool
+abbrev pub admitted : Meaning → (code : ℕ) → Option ℕ → Node → Side → Bool
 admitted m c n True s = true
 admitted m c n False s = false
 admitted m c n (Atom a) s = m.fact a c n
@@ -55,7 +53,7 @@ gather p (x ∷ xs) = p x ++ gather p xs
 
 -- The next labels of the sound choices, where the members below k are still to be expanded, and `handed` is handed on so far.
 -- It goes from the greatest number down, with two branches only at a member that is an or, an until or a release.
-abbrev pub branches : Meaning → Contents → (code : ℕ) → Next → (k : ℕ) → (members handed : Label) → List Label
+abbrev pub branches : Meaning → Contents → (code : ℕ) → Option ℕ → (k : ℕ) → (members handed : Label) → List Label
 branches m b c n zero members handed = handed ∷ []
 branches m b c n (suc k) members handed =
     cond (has members k)
@@ -67,7 +65,7 @@ branches m b c n (suc k) members handed =
     (branches m b c n k members handed)
 
 -- the next labels of a label's sound choices at a code and what comes next
-abbrev pub next_labels : Meaning → Contents → Label → (code : ℕ) → Next → List Label
+abbrev pub next_labels : Meaning → Contents → Label → (code : ℕ) → Option ℕ → List Label
 next_labels m b L c n = branches m b c n (length b.nodes) L 0
 
 -- the numbers below n
@@ -88,14 +86,14 @@ some (x ∷ xs) = true
 
 -- whether a position ends
 abbrev pub ends : Question → Position → Bool
-ends q s = s.place == last_place q && some (next_labels q.meaning q.book s.label s.code Last)
+ends q s = s.place == last_place q && some (next_labels q.meaning q.book s.label s.code None)
 
 -- the positions one step on
 abbrev pub steps : Question → Position → List Position
 steps q s =
     gather
     (λ c. gather (λ L. record { place = min (suc s.place) (last_place q); label = L; code = c } ∷ [])
-    (next_labels q.meaning q.book s.label s.code (Code c)))
+    (next_labels q.meaning q.book s.label s.code (Some c)))
     (visits_at q.meaning.codes q.kept (suc s.place))
 
 -- the starting positions

@@ -1,7 +1,6 @@
 -- What is proved of labels, positions, histories and answers.
-use Rattle.std.specs.Prelude.{◌≡◌, ℕ, suc, ◌*◌, ◌^◌, ◌<◌, ◌≤◌, Bool, true, ◌⊎◌, ◌↔◌, List, length}
+use Rattle.std.specs.Prelude.{Option, ◌≡◌, ℕ, suc, ◌*◌, ◌^◌, ◌<◌, ◌≤◌, Bool, true, ◌⊎◌, ◌↔◌, List, length}
 use Rattle.theory.specs.Meaning.{Meaning}
-use Rattle.theory.specs.declared.next.Next.{Next}
 use Rattle.ltlf.specs.Contents.{Contents, Proper}
 use Rattle.judge.specs.Formulas.{formula, node_at, Among}
 use Rattle.judge.specs.Histories.{visit, after}
@@ -133,7 +132,7 @@ NextIsComputed = (b : Contents) → Proper b → (κ : Choice) (L L' : Label) �
 -- The computed next labels are those of the sound choices.
 abbrev pub NextLabelsAreComputed : Type 0
 NextLabelsAreComputed =
-    (m : Meaning) (b : Contents) → Proper b → (L : Label) (c : ℕ) (n : Next) (L' : Label)
+    (m : Meaning) (b : Contents) → Proper b → (L : Label) (c : ℕ) (n : Option ℕ) (L' : Label)
     → In L' (next_labels m b L c n) ↔ ((κ : Choice) × Sound m b κ L c n × IsNextLabel b κ L L')
 
 -- THE ANSWER

@@ -84,7 +84,7 @@ module _ (bytes : List ℕ) (values : List ℤ) (i : ℕ) (x : ℤ) (at : ℕ) (
     | inl room ↦ (
         let e = none ∙ fit_answer out at (item at (to_z w32 (of_z w32 x))) (print_fits (leb-true _ _ room)) in
         let z : ◌≡◌ {A = ℕ} 0 1 = cc in absurd (omega arith)
-      )
+        )
     | inr over ↦ leb-false _ _ over
   ]
 

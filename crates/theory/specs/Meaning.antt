@@ -1,16 +1,14 @@
 -- What a theory means, and what its call `holds` answers.
-use Rattle.std.specs.Prelude.{ℕ, ◌≤◌, Bool, true, cond, ◌&&◌, Ok, Err, Result, nat_lt}
+use Rattle.std.specs.Prelude.{Option, Some, None, ℕ, ◌≤◌, Bool, true, cond, ◌&&◌, Ok, Err, Result, nat_lt}
 use Rattle.refusal.specs.declared.Refusal.{Refusal}
 use Rattle.refusal.specs.declared.Refusal.TheVariants.{Unknown, NoSuchCode}
-use Rattle.theory.specs.declared.next.Next.{Next}
-use Rattle.theory.specs.declared.next.Next.TheVariants.{Code, Last}
 
 -- A theory's meaning: how many codes and atoms there are, and the facts,
 -- which say whether an atom holds at a code when a code, or nothing, comes next.
 pub record Meaning : Type 0 where
   pub codes : ℕ
   pub atoms : ℕ
-  pub fact : (atom code : ℕ) → Next → Bool
+  pub fact : (atom code : ℕ) → Option ℕ → Bool
 
 -- the ranges of the counts
 pub record InRange (m : Meaning) : Type 0 where
@@ -19,12 +17,12 @@ pub record InRange (m : Meaning) : Type 0 where
   pub few_atoms : m.atoms ≤ 255
 
 -- what comes next is nothing, or one of `codes` codes
-abbrev pub next_exists : (codes : ℕ) → Next → Bool
-next_exists codes (Code n) = nat_lt n codes
-next_exists codes Last = true
+abbrev pub next_exists : (codes : ℕ) → Option ℕ → Bool
+next_exists codes (Some n) = nat_lt n codes
+next_exists codes None = true
 
 -- 2 for an atom that does not exist comes before 4 for a code that does not exist
-abbrev pub within : (codes atoms atom code : ℕ) → Next → Result (Unit {0}) Refusal
+abbrev pub within : (codes atoms atom code : ℕ) → Option ℕ → Result (Unit {0}) Refusal
 within codes atoms atom code next =
     cond (nat_lt atom atoms) (cond (nat_lt code codes && next_exists codes next) (Ok tt) (Err NoSuchCode)) (Err Unknown)
 
@@ -34,5 +32,5 @@ unless_refused (Ok u) x = Ok x
 unless_refused (Err e) x = Err e
 
 -- what `holds` answers: a refusal, or the fact
-abbrev pub answer : Meaning → (atom code : ℕ) → Next → Result Bool Refusal
+abbrev pub answer : Meaning → (atom code : ℕ) → Option ℕ → Result Bool Refusal
 answer m atom code next = unless_refused (within m.codes m.atoms atom code next) (m.fact atom code next)

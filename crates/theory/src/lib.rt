@@ -2,13 +2,11 @@
 // Promises: each call of every theory answers by its meaning, refusals included.
 #![tactic(auto)]
 
-mod next;
 mod print;
 
 ghost use Rattle.std.specs.Prelude.{◌≡◌};
 ghost use Rattle.theory.specs.Meaning.{within, Meaning, InRange, answer};
 
-pub use next::Next;
 pub use print::{Printable, print_values, put_item};
 use refusal::Refusal;
 
@@ -28,26 +26,29 @@ pub trait Theory {
     fn atom_count(&self) -> u8
         ensures { result ≡ (meaning self.now).atoms };
 
-    /// Whether `atom` holds at `code` when `next` comes next.
+    /// Whether `atom` holds at `code` when `next` comes next: a code, or nothing after the last visit.
     ///
     /// Errors: 2 for an atom that does not exist, else 4 for a code that does not exist.
-    fn holds(&self, atom: u8, code: u16, next: Next) -> Result<bool, Refusal>
+    fn holds(&self, atom: u8, code: u16, next: Option<u16>) -> Result<bool, Refusal>
         ensures { result ≡ answer (meaning self.now) atom code next };
 }
 
 /// Checks that an atom, a code and what comes next exist among `codes` codes and `atoms` atoms.
 ///
 /// Errors: 2 for an atom that does not exist, else 4 for a code that does not exist.
-pub fn check_within(codes: u16, atoms: u8, atom: u8, code: u16, next: Next) -> Result<(), Refusal>
+pub fn check_within(
+    codes: u16,
+    atoms: u8,
+    atom: u8,
+    code: u16,
+    next: Option<u16>,
+) -> Result<(), Refusal>
     ensures { result ≡ within codes atoms atom code next }
 {
     if atom >= atoms {
         return Err(Refusal::Unknown);
     }
-    let next_exists = match next {
-        Next::Code(n) => n < codes,
-        Next::Last => true,
-    };
+    let next_exists = next.is_none_or(|n| n < codes);
     if code < codes && next_exists {
         Ok(())
     } else {

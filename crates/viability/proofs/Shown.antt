@@ -1,10 +1,9 @@
 -- Soundness depends on a moment only through the atoms that hold there, and whether it is the last.
+use Rattle.std.specs.Prelude.{Option, Some, None}
 use Rattle.std.proofs.Common.{◌≡◌, ℕ, Bool, true, false, ◌↔◌, length, sym, refl, ◌∙◌, subst, arith}
 use native.Mathlib.Decide.{dec_lt}
 use Rattle.std.proofs.lemmas.List.{get_or_past}
 use Rattle.std.proofs.lemmas.Bool.{ltb-true, both_ways}
-use Rattle.theory.specs.declared.next.Next.{Next}
-use Rattle.theory.specs.declared.next.Next.TheVariants.{Code, Last}
 use Rattle.ltlf.specs.Contents.{Contents, Proper}
 use Rattle.ltlf.specs.Nodes.{known}
 use Rattle.ltlf.specs.declared.node.Node.{Node}
@@ -15,10 +14,10 @@ use Rattle.tableau.specs.Labels.{Label}
 use Rattle.tableau.specs.Expansion.{Side, one, other, Choice, GoesOn}
 use Rattle.viability.specs.Moments.{Moment, Admits, SoundAt, SomeSound, HandsOn, Shows, moment}
 
-goes : (n n' : Next) → is_last n ≡ is_last n' → GoesOn n → GoesOn n'
-goes (Code c) (Code c') e h = tt
-goes (Code c) Last e h = both_ways (is_last (Code c)) refl e
-goes Last n' e h = absurd h
+goes : (n n' : Option ℕ) → is_last n ≡ is_last n' → GoesOn n → GoesOn n'
+goes (Some c) (Some c') e h = tt
+goes (Some c) None e h = both_ways (is_last (Some c)) refl e
+goes None n' e h = absurd h
 
 -- two moments that one mask shows admit the same members
 module _ (w w' : Moment) (atoms truth : ℕ) (last : Bool) (sh : Shows w atoms truth last) (sh' : Shows w' atoms truth last) where

@@ -1,8 +1,6 @@
 -- One visit as an expansion sees it: which atoms hold there, and whether a visit follows.
-use Rattle.std.specs.Prelude.{◌≡◌, ℕ, ◌<◌, Bool, true, false}
+use Rattle.std.specs.Prelude.{Option, Some, None, ◌≡◌, ℕ, ◌<◌, Bool, true, false}
 use Rattle.theory.specs.Meaning.{Meaning}
-use Rattle.theory.specs.declared.next.Next.{Next}
-use Rattle.theory.specs.declared.next.Next.TheVariants.{Code, Last}
 use Rattle.ltlf.specs.Contents.{Contents}
 use Rattle.ltlf.specs.declared.node.Node.{Node}
 use Rattle.judge.specs.Marks.{is_last}
@@ -13,7 +11,7 @@ use Rattle.tableau.specs.Expansion.{Side, Choice, Admitted, Sound, IsNextLabel}
 pub record Moment : Type 0 where
   pub meaning : Meaning
   pub code : ℕ
-  pub next : Next
+  pub next : Option ℕ
 
 -- the moment admits a member on a side
 abbrev pub Admits : Moment → Node → Side → Type 0
@@ -37,9 +35,9 @@ pub record Shows (w : Moment) (atoms truth : ℕ) (last : Bool) : Type 0 where
   pub end : is_last w.next ≡ last
 
 -- what comes next at a moment that is the last, or is not
-abbrev pub coming : Bool → Next
-coming true = Last
-coming false = Code 0
+abbrev pub coming : Bool → Option ℕ
+coming true = None
+coming false = Some 0
 
 -- a moment that the mask shows, whatever the number of atoms
 abbrev pub moment : (truth : ℕ) → (last : Bool) → Moment

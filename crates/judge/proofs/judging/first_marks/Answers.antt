@@ -1,8 +1,8 @@
+use Rattle.std.specs.Prelude.{Some}
 use Rattle.std.proofs.Common.{◌≡◌, ℕ, suc, ◌-◌, ◌<◌, [], ◌∷◌, length, drop, sym, subst, length-append, arith}
 use Rattle.std.proofs.lemmas.List.{length-reverse}
 use Rattle.std.proofs.lemmas.Iterator.Adapters.{YieldsList-from_rev_slice}
 use Rattle.std.proofs.lemmas.Iterator.Consumers.{YieldsList-turn, YieldsList-end}
-use Rattle.theory.specs.declared.next.Next.TheVariants.{Code}
 use Rattle.ltlf.specs.Contents.{book_contents}
 use Rattle.judge.specs.Histories.{first}
 use Rattle.judge.proofs.Checking.{some_visit, visit_exists, after_exists}
@@ -31,7 +31,7 @@ loop-code-preserved g c = λ i at.
     let size = length-append c.loop-code.yielded (c.in-Some.code ∷ []) in
     let is = read_back σ n c.in-Some.code.now i turn.0 turn.1 (omega arith) in
     let past = c.loop-code.invariant (suc i) (omega arith) in (
-      subst (λ (x : ℕ). first (drop i σ) ≡ Code x) is (first_at σ i (omega arith)),
+      subst (λ (x : ℕ). first (drop i σ) ≡ Some x) is (first_at σ i (omega arith)),
       λ h. c.pass-marks.ensures σ i h is past.0 past.1,
     )
 

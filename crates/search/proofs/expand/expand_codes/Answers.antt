@@ -1,6 +1,6 @@
+use Rattle.std.specs.Prelude.{Some}
 use Rattle.std.proofs.Common.{◌≡◌, ℕ, None, sym, subst, ◌∙◌, arith}
 use Rattle.std.proofs.lemmas.Bool.{lt-ltb}
-use Rattle.theory.specs.declared.next.Next.TheVariants.{Code}
 use Rattle.ltlf.specs.Contents.{book_contents}
 use Rattle.search.specs.Layers.{Spread}
 use Rattle.search.specs.Rows.{position}
@@ -24,7 +24,7 @@ loop-code-preserved g c =
     let b = book_contents c.args.asked.now.book.now in
     let s = position c.args.row in
     let at = range_turn c.args.visits.start c.args.visits.end (cc) c.loop-code.yielded _ c.loop-code.yielded_by _ c.next.new.self c.in-Some.code c.in-Some.is c.next.ensures.steps in
-    let shown = subst (Shown m c.args.row.code (Code c.in-Some.code) c.truth_at-truth.result) c.atom_count.ensures c.truth_at-truth.ensures in
+    let shown = subst (Shown m c.args.row.code (Some c.in-Some.code) c.truth_at-truth.result) c.atom_count.ensures c.truth_at-truth.ensures in
     let so-far = subst (λ (n : ℕ). Collected (λ e. e.from ≡ c.args.visit.from) (StepsFrom m b s c.args.visit.place) c.args.visits.start c.args.rows.now c.loop-code.rows c.args.filled c.loop-code.filled n)
     at.0 c.loop-code.invariant.0 in (
       subst (λ (n : ℕ). Collected (λ e. e.from ≡ c.args.visit.from) (StepsFrom m b s c.args.visit.place) c.args.visits.start c.args.rows.now c.enter_labels.new.rows c.args.filled c.in_ok-filled.filled n)
@@ -40,7 +40,7 @@ returns-in_default g c =
     let b = book_contents c.args.asked.now.book.now in
     let s = position c.args.row in
     let at = range_turn c.args.visits.start c.args.visits.end (cc) c.loop-code.yielded _ c.loop-code.yielded_by _ c.next.new.self c.in-Some.code c.in-Some.is c.next.ensures.steps in
-    let shown = subst (Shown m c.args.row.code (Code c.in-Some.code) c.truth_at-truth.result) c.atom_count.ensures c.truth_at-truth.ensures in
+    let shown = subst (Shown m c.args.row.code (Some c.in-Some.code) c.truth_at-truth.result) c.atom_count.ensures c.truth_at-truth.ensures in
     let so-far = subst (λ (n : ℕ). Collected (λ e. e.from ≡ c.args.visit.from) (StepsFrom m b s c.args.visit.place) c.args.visits.start c.args.rows.now c.loop-code.rows c.args.filled c.loop-code.filled n)
     at.0 c.loop-code.invariant.0 in
     code_full c.args.visit.from m b s c.args.visit.place c.args.visits.start c.in-Some.code _
@@ -53,7 +53,7 @@ returns-in_err-filled g c =
     let b = book_contents c.args.asked.now.book.now in
     let s = position c.args.row in
     let at = range_turn c.args.visits.start c.args.visits.end (cc) c.loop-code.yielded _ c.loop-code.yielded_by _ c.next.new.self c.in-Some.code c.in-Some.is c.next.ensures.steps in
-    let shown = subst (Shown m c.args.row.code (Code c.in-Some.code) c.truth_at-truth.result) c.atom_count.ensures c.truth_at-truth.ensures in
+    let shown = subst (Shown m c.args.row.code (Some c.in-Some.code) c.truth_at-truth.result) c.atom_count.ensures c.truth_at-truth.ensures in
     let so-far = subst (λ (n : ℕ). Collected (λ e. e.from ≡ c.args.visit.from) (StepsFrom m b s c.args.visit.place) c.args.visits.start c.args.rows.now c.loop-code.rows c.args.filled c.loop-code.filled n)
     at.0 c.loop-code.invariant.0 in
     let gone : c.from_residual.result ≡ None = grind arith in

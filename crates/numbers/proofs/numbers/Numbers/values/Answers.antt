@@ -27,7 +27,7 @@ loop-variable-preserved c =
           ∙ ap₂ (λ (xs : List ℤ) (z : ℤ). xs ++ z ∷ []) v.invariant.0 is
           ∙ sym (more_values t c.args.code v.variable here),
       below_more _ _ v.invariant.1
-      (subst (λ (z : ℤ). within 10000 z ≡ true) (c.value.ensures.is ∙ sym (value_at t c.args.code v.variable here)) c.value.ensures.bounds),
+          (subst (λ (z : ℤ). within 10000 z ≡ true) (c.value.ensures.is ∙ sym (value_at t c.args.code v.variable here)) c.value.ensures.bounds),
     )
 
 pub returns-clause-are : goal.returns-clause-are
