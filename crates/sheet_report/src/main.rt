@@ -11,9 +11,7 @@ use ltlf::{Book, Draft};
 use numbers::Numbers;
 use record::Record;
 use refusal::Refusal;
-use report::{
-    kept_line, question_refused_line, rows_line, stands_line, verdict_line, visit_line,
-};
+use report::{kept_line, question_refused_line, rows_line, stands_line, verdict_line, visit_line};
 use search::{Outcome, Row};
 use sheet_text::read_sheet;
 use sheet_theory::SheetTheory;
