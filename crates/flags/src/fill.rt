@@ -48,7 +48,7 @@ impl Flags {
         Ok(())
     }
 
-    // The number of the flag with a name.
+    // The number of the flag with a name; here and in `numbers` the roster's number takes the width that the theory keeps.
     fn flag_number(&self, text: &[u8]) -> Option<u8>
         ensures { result ≡ flag_number text.now (flags_of self.now).names }
     {

@@ -10,6 +10,9 @@ use record::Record;
 use refusal::Refusal;
 use theory::Theory;
 
+// Record, book, theory and visits are four arguments here and in `question`: a visit list is written on between questions, and
+// a struct would hold all four lent.
+
 /// Whether the kept visits, as a whole history, meet the book.
 ///
 /// Errors: 6 with nothing kept, else 7 where the counts of record, book and theory are not all the same, else 8 for a visit

@@ -17,6 +17,8 @@ pub use cell::Cell;
 use descent::{End, descend};
 pub use keyed::Keyed;
 
+// Cells and how many are filled are two arguments throughout: callers lend a slice, of arrays and of buffers of their own.
+
 // The greatest cell number that fits a link.
 const LAST_LINK: usize = 4_294_967_295;
 

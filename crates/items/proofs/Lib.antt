@@ -1,7 +1,6 @@
 pub mod Figures
 pub mod Decimal
 pub mod Letters
-pub mod Fronts
 pub mod Scans
 pub mod Cuts
 pub mod Bounds

@@ -1,6 +1,6 @@
 -- The trailer of a sheet.
 use Rattle.std.specs.Prelude.{ℕ, ◌-◌, Bool, cond, ◌&&◌, List, [], ◌∷◌, length, take, drop, Some, None, Option, ◌==◌, nat_le, slice_index}
-pub use Rattle.items.specs.Reads.{and_read, and_text, whole}
+use Rattle.items.specs.Reads.{and_read, and_text, whole}
 use Rattle.items.specs.Numbers.{natural_read}
 use Rattle.items.specs.Lines.{behind, last_start}
 use Rattle.items.specs.declared.trailers.Trailer.{Trailer}

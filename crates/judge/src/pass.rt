@@ -53,6 +53,7 @@ pub(crate) fn pass<T: Theory>(
     ensures { Passed (T.Theory.meaning theory.now) (book_contents book.now) code next later result }
 {
     let mut here = 0;
+    // The number is a formula, not an index, and each formula needs the marks of those before it.
     for number in 0..book.formula_count() {
         let node = book.node(number).unwrap_or(Node::True);
         if node_holds(theory, code, next, here, later, number, node) {

@@ -66,6 +66,7 @@ impl Draft {
         if !self.knows(node) {
             return Err(Refusal::Unknown);
         }
+        // One match: what is found, what is added and the draft's own word for full cells.
         match find_or_add(&mut self.cells, self.len as usize, node) {
             Ok(Slot::Found(place)) => Ok(place as u8),
             Ok(Slot::Added(place)) => {

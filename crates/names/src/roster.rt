@@ -7,6 +7,7 @@ use crate::Name;
 use intern::{Cell, Slot, find, find_or_add};
 
 /// At most `N` names, all different, indexed so that a name is found at once.
+// An array with a count: find-or-add takes a lent slice and how much of it is filled, and an `ArrayVec` lends its filled part alone.
 #[derive(Drop)]
 pub struct Roster<const N: usize> {
     cells: [Cell<Name>; N],

@@ -15,6 +15,7 @@ impl Numbers {
         ensures bounds { (k : ℕ) → k < length result.items → within 10000 (slice_index_or result.items k (pos 0)) ≡ true }
     {
         let mut values = ArrayVec::new();
+        // By number: that a span divides is known of the variable's place in the grid.
         for variable in 0..self.variable_count() {
             values.push(self.grid.value(variable, code));
         }

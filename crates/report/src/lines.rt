@@ -76,6 +76,8 @@ pub fn question_refused_line(out: &mut [u8], refusal: Refusal) -> Result<usize, 
     write_line(out, "question refused", &[u64::from(refusal.number())])
 }
 
+// The two lines below differ in their words alone; one function for both would take four words to save two arms.
+
 /// Writes `note accepted` or `note refused N`.
 ///
 /// Errors: 9 for fewer than 64 bytes, which stay as they were.

@@ -9,7 +9,7 @@ use Rattle.judge.specs.Formulas.{Among}
 use Rattle.judge.specs.Holding.{Meets}
 use Rattle.judge.proofs.Checking.{some_visit}
 use Rattle.items.specs.Lines.{behind}
-use Rattle.items.specs.Trailers.{and_text}
+use Rattle.items.specs.Reads.{and_text}
 use Rattle.formula_text.specs.Formulas.{Outcome, stopped, found, formula_read}
 use Rattle.formula_text.specs.Grammar.{Written, write, depth, AtomsBelow}
 use Rattle.formula_text.specs.Trees.{Tree, pushed, Stands}

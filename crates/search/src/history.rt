@@ -11,6 +11,7 @@ pub(crate) fn read_back(rows: &[Cell<Row>], row: Row, depth: usize, history: &mu
     ensures { history.new ≡ trail rows.now depth row ++ drop (suc depth) history.old }
 {
     let mut at = row;
+    // By number: of what is written through a reversed `iter_mut` a proof knows nothing.
     for left in (0..depth).rev() {
         history[left + 1] = at.code;
         at = rows[at.from as usize].item;

@@ -29,6 +29,7 @@ pub(crate) enum Found {
 // that it still lends the same one.
 
 /// Enters a row behind the first `filled`, unless its position stands there; `None` where no row is left.
+// The body stands once more for next labels, in `successors`: each contract says its own of what is entered.
 pub(crate) fn enter(rows: &mut [Cell<Row>], filled: usize, row: Row) -> Option<usize>
     requires { (length rows.old ≤ 2 ^ 32) × (IndexedRows rows.old filled) }
     ensures { Spread (λ e. e.from ≡ row.from) (λ p. p ≡ position row) rows.old rows.new filled result }

@@ -104,6 +104,7 @@ fn write_report(
 }
 
 /// Reads the sheet and writes its report.
+// It begins as in `sheet`: a function that handed out what a sheet fills would move some 100 KiB.
 fn run(bytes: &[u8], out: &mut io::Stdout) -> io::Result<()> {
     let mut draft = Draft::new();
     let mut flags = Flags::fresh();

@@ -12,7 +12,7 @@ use Rattle.ltlf.specs.Contents.{Contents, empty, counts_leave}
 use Rattle.number_text.specs.Sums.{sum_read}
 use Rattle.number_text.specs.Variables.{variable_read}
 use Rattle.items.specs.Names.{Naming, name_read}
-use Rattle.items.specs.Trailers.{whole}
+use Rattle.items.specs.Reads.{whole}
 use Rattle.sheet_text.specs.Notes.{note_read, number_note_read}
 use Rattle.sheet_text.specs.declared.heading.Heading.{Heading}
 use Rattle.sheet_text.specs.declared.heading.Heading.TheVariants.{Flags, Numbers}

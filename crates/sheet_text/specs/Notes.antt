@@ -2,7 +2,7 @@
 use Rattle.std.specs.Prelude.{ℕ, zero, suc, ◌+◌, ◌*◌, ◌^◌, ◌<◌, min, cond, List, [], ◌∷◌, length, Some, None, Ok, Err, Option, Result, nat_lt}
 use Rattle.items.specs.Lines.{behind, lines_of}
 use Rattle.items.specs.Numbers.{natural_read}
-use Rattle.items.specs.Trailers.{and_text, and_read, whole}
+use Rattle.items.specs.Reads.{and_text, and_read, whole}
 use Rattle.numbers.specs.Values.{VariableModel}
 use Rattle.number_text.specs.Values as number
 use Rattle.sheet_text.specs.Lines.{lines_read}

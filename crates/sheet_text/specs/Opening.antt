@@ -1,7 +1,7 @@
 -- The lines before the rules: the heading, the variables, the atoms.
 use Rattle.std.specs.Prelude.{ℕ, List, [], ◌∷◌, length, Some, None, Ok, Err, Option, Result}
 use Rattle.items.specs.Lines.{behind, lines_of}
-use Rattle.items.specs.Trailers.{whole}
+use Rattle.items.specs.Reads.{whole}
 use Rattle.sheet_text.specs.Held.{Held, heading_in, begun, variable_added, atom_added}
 use Rattle.sheet_text.specs.Lines.{lines_read, section}
 use Rattle.sheet_text.specs.declared.heading.Heading.{Heading}

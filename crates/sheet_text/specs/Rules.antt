@@ -3,7 +3,7 @@ use Rattle.std.specs.Prelude.{ℕ, false, List, [], ◌∷◌, Some, None, Ok, E
 use Rattle.refusal.specs.declared.Refusal.{Refusal}
 use Rattle.ltlf.specs.Contents.{Contents, rule_answer, rule_leaves}
 use Rattle.items.specs.Lines.{behind, lines_of}
-use Rattle.items.specs.Trailers.{and_text}
+use Rattle.items.specs.Reads.{and_text}
 use Rattle.formula_text.specs.Formulas.{Outcome, stopped, found, formula_read}
 use Rattle.sheet_text.specs.Lines.{lines_read}
 

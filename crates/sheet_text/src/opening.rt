@@ -8,6 +8,7 @@ use super::heading::Heading;
 use super::lines::Lines;
 
 /// How far the lines before the rules have come.
+// A value and no type: one loop carries it from line to line.
 #[derive(Clone, Copy, PartialEq, Eq, Drop)]
 pub(crate) enum Stage {
     /// Before the heading.

@@ -38,6 +38,7 @@ fn is_sheet_text(bytes: &[u8]) -> bool
 }
 
 /// Reads a sheet, and leaves anything in the draft, the flags and the numbers where it is refused.
+// What is lent stays apart: the draft is sealed, the theory kept and the visit list written on by other calls.
 fn read_text(
     bytes: &[u8],
     draft: &mut Draft,
