@@ -1,19 +1,11 @@
-ghost use Rattle.std.specs.Prelude.{◌≡◌, ◌<◌};
-ghost use Rattle.flags.specs.Meaning.{bit, flags_meaning};
+ghost use Rattle.std.specs.Prelude.{◌≡◌};
+ghost use Rattle.flags.specs.Meaning.{flags_meaning};
 ghost use Rattle.flags.specs.Model.{flags_of};
 ghost use Rattle.flags.specs.Ranges.{flags_ranges};
 
 use super::flags::Flags;
 use refusal::Refusal;
 use theory::Theory;
-
-// Bit `i` of a code.
-fn bit_of(code: u16, i: u8) -> bool
-    requires { i < 16 }
-    ensures { result ≡ bit code i }
-{
-    (code >> i) % 2 == 1
-}
 
 impl Theory for Flags {
     ghost meaning = { λ t. flags_meaning (flags_of t) };
@@ -31,6 +23,6 @@ impl Theory for Flags {
     fn holds(&self, atom: u8, code: u16, next: Option<u16>) -> Result<bool, Refusal> {
         theory::check_within(self.code_count(), self.atom_count(), atom, code, next)?;
         let flag = self.atoms[atom as usize];
-        Ok(bit_of(code, flag))
+        Ok(masks::contains(u64::from(code), flag))
     }
 }

@@ -65,7 +65,8 @@ fn formula<'a>(draft: &mut Draft, text: &'a [u8], negated: bool, depth: u8) -> O
     }
 }
 
-/// Reads the formula in front of a text into a draft, and gives its number there: negation pushed down to the atoms, left operands put first.
+/// Reads the formula in front of a text into a draft, negation pushed down to the atoms and left operands put first, and gives
+/// its number there.
 ///
 /// Nothing is read where no formula of depth at most 32 stands in front, where an atom does not exist and where the draft
 /// is full; what was put before reading stopped stays in the draft.

@@ -58,7 +58,7 @@ fn ask<T: Theory, O: Observer>(
 }
 
 /// One call of the draw.
-// What is lent stays a parameter each: a struct of `&mut` would be taken apart again for every call, and its clauses name each part.
+// What is lent stays a parameter each: a struct of `&mut` would be taken apart again for every call.
 fn step<T: Theory, O: Observer>(
     record: Record,
     call: &Call<T>,

@@ -10,8 +10,7 @@ use record::Record;
 use refusal::Refusal;
 use theory::Theory;
 
-// Record, book, theory and visits are four arguments here and in `question`: a visit list is written on between questions, and
-// a struct would hold all four lent.
+// Record, book, theory and visits are four arguments, as in `question`: a struct would keep the visit list lent between calls.
 
 /// Whether the kept visits, as a whole history, meet the book.
 ///

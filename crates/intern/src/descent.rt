@@ -8,7 +8,7 @@ use crate::{Cell, EntryError, Keyed};
 pub enum End {
     /// At a cell whose item equals the record.
     Here(usize),
-    /// At a cell with no link on the side where the walk would go on.
+    /// At a cell with no link on the side where the walk would go on: the bit of the key there, right where it is 1.
     Gap { at: usize, right: bool },
 }
 

@@ -20,7 +20,7 @@ pub use keyed::Keyed;
 // Cells and how many are filled are two arguments throughout: callers lend a slice, of arrays and of buffers of their own.
 
 // The greatest cell number that fits a link.
-const LAST_LINK: usize = 4_294_967_295;
+const LAST_LINK: usize = u32::MAX as usize;
 
 /// The cell of a record: where it was found, or where it was added.
 #[derive(Clone, Copy, PartialEq, Eq, Debug, Drop)]

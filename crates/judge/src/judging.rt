@@ -19,7 +19,7 @@ pub fn all_codes(codes: u16, visits: &[u16]) -> bool
     visits.iter().all(|code| *code < codes)
 }
 
-// Theory, book and visits are three arguments here and in the calls above: each belongs to another owner, and a call borrows it once.
+// Theory, book and visits are three arguments here and in the crates above: each belongs to another owner, and a call borrows it once.
 
 /// Whether theory and book have the same counts of codes and atoms.
 pub fn same_counts<T: Theory>(theory: &T, book: &Book) -> bool

@@ -12,18 +12,19 @@ impl Node {
     fn key(self) -> u32
         ensures { result ≡ key self }
     {
-        match self {
-            Node::True => 0,
-            Node::False => 65_536,
-            Node::Atom(a) => 131_072 + u32::from(a),
-            Node::NotAtom(a) => 196_608 + u32::from(a),
-            Node::And(f, g) => 262_144 + u32::from(f) + 256 * u32::from(g),
-            Node::Or(f, g) => 327_680 + u32::from(f) + 256 * u32::from(g),
-            Node::Tomorrow(f) => 393_216 + u32::from(f),
-            Node::WeakTomorrow(f) => 458_752 + u32::from(f),
-            Node::Until(f, g) => 524_288 + u32::from(f) + 256 * u32::from(g),
-            Node::Release(f, g) => 589_824 + u32::from(f) + 256 * u32::from(g),
-        }
+        let (kind, left, right) = match self {
+            Node::True => (0, 0, 0),
+            Node::False => (1, 0, 0),
+            Node::Atom(a) => (2, a, 0),
+            Node::NotAtom(a) => (3, a, 0),
+            Node::And(f, g) => (4, f, g),
+            Node::Or(f, g) => (5, f, g),
+            Node::Tomorrow(f) => (6, f, 0),
+            Node::WeakTomorrow(f) => (7, f, 0),
+            Node::Until(f, g) => (8, f, g),
+            Node::Release(f, g) => (9, f, g),
+        };
+        65_536 * kind + u32::from(left) + 256 * u32::from(right)
     }
 }
 

@@ -34,6 +34,7 @@ impl Book {
     pub fn node(&self, number: u8) -> Result<Node, Refusal>
         ensures { result ≡ node_answer (book_contents self.now) number }
     {
+        // A test and an index: a `get` would first have to slice the filled cells.
         if number < self.sealed.len {
             Ok(self.sealed.cells[number as usize].item)
         } else {

@@ -1,5 +1,5 @@
 // The lines of a number sheet: the bounds of a variable, the sum of an atom, the values of a note.
-// Rests on `numbers` and `items`.
+// Rests on `numbers`, `items` and the kit's `arrayvec`.
 // Promises: a line is read exactly where the definition in specs/ reads it, and a number of any length is read or refused.
 #![tactic(auto)]
 

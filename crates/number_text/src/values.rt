@@ -22,7 +22,7 @@ fn count_on(low: i32, high: i32, before: u32, value: i32) -> Option<u32>
     }
 }
 
-/// The code in front of a space and one more value, with that value.
+/// The code with one more value, which stands behind a space.
 fn read_value<'a>(low: i32, high: i32, before: Read<'a, u32>) -> Option<Read<'a, u32>>
     requires { (before.value + 1) * value_count low high ≤ 65535 }
     ensures read { read_seen result ≡ value_read low high before.entry.value before.entry.rest.now }

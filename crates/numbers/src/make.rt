@@ -23,7 +23,7 @@ fn widen(variables: &mut [Spanned], by: u16)
 }
 
 impl Default for Variable {
-    // What stands in the places of a grid that it does not use.
+    // What stands in the places of a grid that it does not use; by hand, as a derived width of 0 would be no width.
     fn default() -> Variable {
         Variable {
             low: 0,
@@ -95,7 +95,7 @@ fn strongest_moment(terms: &[Term]) -> Moment
 }
 
 impl Default for Atom {
-    // What stands in the places of a theory that it does not use.
+    // What stands in the places of a theory that it does not use; by hand, as no derive makes a ghost field.
     fn default() -> Atom {
         Atom {
             terms: ArrayVec::new(),

@@ -1,5 +1,5 @@
 -- The lines of a report, and what writing one answers and leaves.
-use Rattle.std.specs.Prelude.{ℕ, cond, List, [], ◌∷◌, ◌++◌, length, drop, Some, None, Ok, Err, codes, decimal, Option, Result, nat_lt}
+use Rattle.std.specs.Prelude.{ℕ, cond, List, [], ◌∷◌, ◌++◌, length, drop, Ok, Err, codes, decimal, Result, nat_lt}
 use Rattle.judge.specs.declared.judgement.Judgement.{Judgement}
 use Rattle.judge.specs.declared.judgement.Judgement.TheVariants.{Met, Unmet}
 use Rattle.refusal.specs.Numbers.{number_of, sheet_number, sheet_place}
@@ -31,10 +31,10 @@ abbrev pub kept_text : ℕ → List ℕ
 kept_text n = line_text (codes "kept") (n ∷ [])
 
 -- whether the kept visits, as a whole history, meet the rules, where there were visits to judge
-abbrev pub stands_text : Option Judgement → List ℕ
-stands_text (Some Met) = line_text (codes "stands yes") []
-stands_text (Some Unmet) = line_text (codes "stands no") []
-stands_text None = line_text (codes "stands none") []
+abbrev pub stands_text : Result Judgement Refusal → List ℕ
+stands_text (Ok Met) = line_text (codes "stands yes") []
+stands_text (Ok Unmet) = line_text (codes "stands no") []
+stands_text (Err e) = line_text (codes "stands none") []
 
 -- a refused sheet: its number and its place
 abbrev pub refused_text : SheetRefusal → List ℕ

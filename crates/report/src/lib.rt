@@ -1,4 +1,4 @@
-// The lines that a report is made of, each written into the caller's bytes. Rests on `refusal`, `theory` and `judge`.
+// The lines that a report is made of, each written into the caller's bytes. Rests on `refusal`, `theory`, `judge` and the kit's `itoa` and `arrayvec`.
 // Promises: a line is the text that specs/ gives it; bytes past its length stay; 9 for too few bytes, which stay.
 #![tactic(auto)]
 

@@ -1,6 +1,5 @@
 // A line made of a word and numbers.
-// A `write!` into the bytes ensures its text where it succeeds, and nothing ensures that it does: a line is put together from
-// pieces whose room is known.
+// Pieces and no `write!`: its text is ensured where it succeeds, and nothing ensures that it does.
 ghost use Rattle.std.specs.Prelude.{◌≡◌, ◌+◌, ◌*◌, ◌<◌, ◌≤◌, ◌++◌, length, drop};
 ghost use Rattle.report.specs.Lines.{line_text, line_answer, line_leaves};
 

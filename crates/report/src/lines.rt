@@ -17,17 +17,17 @@ pub fn kept_line(out: &mut [u8], kept: u64) -> Result<usize, Refusal>
     write_line(out, "kept", &[kept])
 }
 
-/// Writes `stands yes` or `stands no`, whether the kept visits meet the rules, or `stands none` where there are none to judge.
+/// Writes `stands yes` or `stands no`, whether the kept visits meet the rules, or `stands none` where they were not judged.
 ///
 /// Errors: 9 for fewer than 64 bytes, which stay as they were.
-pub fn stands_line(out: &mut [u8], judged: Option<Judgement>) -> Result<usize, Refusal>
+pub fn stands_line(out: &mut [u8], judged: Result<Judgement, Refusal>) -> Result<usize, Refusal>
     ensures answer { result ≡ line_answer (length out.old) (stands_text judged) }
     ensures after { out.new ≡ line_leaves out.old (stands_text judged) }
 {
     match judged {
-        Some(Judgement::Met) => write_line(out, "stands yes", &[]),
-        Some(Judgement::Unmet) => write_line(out, "stands no", &[]),
-        None => write_line(out, "stands none", &[]),
+        Ok(Judgement::Met) => write_line(out, "stands yes", &[]),
+        Ok(Judgement::Unmet) => write_line(out, "stands no", &[]),
+        Err(_) => write_line(out, "stands none", &[]),
     }
 }
 

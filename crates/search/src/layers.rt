@@ -51,7 +51,7 @@ pub(crate) fn first_end<S: Space>(
     requires bounded { AllBounded (S.Space.question space.now) rows.now start end }
     ensures { FoundIn (Ends (S.Space.question space.now)) rows.now start end result }
 {
-    // By number: what is wanted is the row's own, and `position` would count from `start`.
+    // By number: tried as `position`, whose closure would have to take any row, while `finish` asks for a bounded one.
     for i in start..end {
         if space.finish(rows[i].item) {
             return Some(i);

@@ -23,11 +23,12 @@ fn report<T: Theory>(
     let made = kept_line(&mut line, visits.len() as u64);
     pass_on(out, &line, made)?;
     // Of an accepted sheet's notes the judge refuses only none at all.
-    let made = stands_line(&mut line, judge(theory, book, visits).ok());
+    let made = stands_line(&mut line, judge(theory, book, visits));
     pass_on(out, &line, made)
 }
 
 /// Reads the sheet and writes its report.
+// It begins as in `sheet_report`: a function that handed out what a sheet fills would move some 100 KiB.
 fn run(bytes: &[u8], out: &mut io::Stdout) -> io::Result<()> {
     let mut draft = Draft::new();
     let mut flags = Flags::fresh();

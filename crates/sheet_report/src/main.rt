@@ -61,7 +61,7 @@ fn write_kept(
     let made = kept_line(&mut line, record.kept() as u64);
     pass_on(out, &line, made)?;
     // Of an accepted sheet's visits only none at all are refused.
-    let made = stands_line(&mut line, stands(record, book, theory, visits).ok());
+    let made = stands_line(&mut line, stands(record, book, theory, visits));
     pass_on(out, &line, made)
 }
 

@@ -60,7 +60,7 @@ pub(crate) fn gathered(guides: &[Guide; 64], members: u64) -> Span
     let mut reach = 0;
     let mut must = 0;
     let mut rest = members;
-    // The members are bits, which no slice or range lists.
+    // The members are bits: an iterator over them would be this loop again.
     while rest > 0 {
         let number = top(rest);
         let span = guide_at(guides, number).span;

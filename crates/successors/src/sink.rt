@@ -8,6 +8,7 @@ use intern::{Cell, Slot, find_or_add};
 /// Enters a label after the first `filled`, unless it is among them, and returns how many there are then.
 ///
 /// None where the cells are full.
+// The body stands once more for rows, in `search`: each contract says its own of what is entered.
 pub(crate) fn enter(cells: &mut [Cell<NextLabel>], filled: usize, label: u64) -> Option<usize>
     requires { Taken cells.old filled }
     ensures { Filled (λ q. q ≡ label) cells.old cells.new filled result }

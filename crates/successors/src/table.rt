@@ -24,7 +24,7 @@ fn place(number: u8, state: State, size: usize) -> usize
 pub(crate) fn seen(table: &[Option<State>], number: u8, state: State) -> bool
     ensures { result ≡ true → Stands table.now state }
 {
-    if table.len() == 0 {
+    if table.is_empty() {
         return false;
     }
     table[place(number, state, table.len())] == Some(state)
@@ -34,7 +34,7 @@ pub(crate) fn seen(table: &[Option<State>], number: u8, state: State) -> bool
 pub(crate) fn remember(table: &mut [Option<State>], number: u8, state: State)
     ensures { Puts table.old table.new state }
 {
-    if table.len() > 0 {
+    if !table.is_empty() {
         let at = place(number, state, table.len());
         table[at] = Some(state);
     }

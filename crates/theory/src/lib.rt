@@ -33,6 +33,8 @@ pub trait Theory {
         ensures { result ≡ answer (meaning self.now) atom code next };
 }
 
+// Counts of codes and atoms are two numbers throughout, as a theory gives them by two calls.
+
 /// Checks that an atom, a code and what comes next exist among `codes` codes and `atoms` atoms.
 ///
 /// Errors: 2 for an atom that does not exist, else 4 for a code that does not exist.

@@ -7,7 +7,7 @@ use super::Theory;
 use refusal::Refusal;
 use writer::put_number;
 
-/// A print buffer has room for the values of every code.
+// A print buffer has room for the values of every code.
 const PRINT_ROOM: usize = 64;
 
 /// A theory that can write the values of a code.

@@ -34,6 +34,7 @@ impl Visit<'_> {
         if !inside(members, able) {
             return false;
         }
+        // Nested loops left by a label: a choice that is not sound goes on to the next.
         'choices: for flips in 0..u64::MAX {
             let mut expansion = members;
             for number in (0..self.book.formula_count()).rev() {
