@@ -29,6 +29,7 @@ fn atom<'a>(draft: &mut Draft, text: &'a [u8], negated: bool) -> Option<Read<'a,
 fn formula<'a>(draft: &mut Draft, text: &'a [u8], negated: bool, depth: u8) -> Option<Read<'a, u8>>
     ensures { outcome result (draft_contents draft.new) ≡ formula_read depth negated text.now (draft_contents draft.old) }
 {
+    // The depth falls with each operator, and a pattern takes the operator off the text.
     if depth == 0 {
         return None;
     }

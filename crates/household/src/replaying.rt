@@ -58,7 +58,8 @@ fn ask<T: Theory, O: Observer>(
 }
 
 /// One call of the draw.
-// What is lent stays a parameter each: a struct of `&mut` would be taken apart again for every call.
+// What is lent stays a parameter each, and that it has room for the kept visits a fact of each contract: a struct of `&mut` would
+// be taken apart again for every call.
 fn step<T: Theory, O: Observer>(
     record: Record,
     call: &Call<T>,

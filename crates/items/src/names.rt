@@ -19,6 +19,7 @@ pub fn read_name(text: &[u8]) -> Option<Read<&[u8]>>
     ensures { name_seen result ≡ name_read text.now }
 {
     let n = lower_letters(text);
+    // An `if`: both parts come from one cut, which needs the length tested first.
     if 1 <= n && n <= 8 {
         let (value, rest) = text.split_at(n);
         Some(Read { value, rest })

@@ -10,6 +10,8 @@ use ltlf::{Book, Node};
 use masks::{contains, with};
 use theory::Theory;
 
+// Code and next are two arguments, as a theory takes them.
+
 /// Whether the node of a number holds, from the marks of the formulas that hold here and at the visit after.
 fn node_holds<T: Theory>(
     theory: &T,

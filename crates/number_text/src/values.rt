@@ -15,6 +15,7 @@ fn count_on(low: i32, high: i32, before: u32, value: i32) -> Option<u32>
     ensures is { result ≡ counted_on low high before value }
     ensures below { counts_below low high before result }
 {
+    // An `if`: `then_some` would count a value past its bounds too.
     if low <= value && value <= high {
         Some(before * (high.abs_diff(low) + 1) + value.abs_diff(low))
     } else {

@@ -48,6 +48,7 @@ pub enum FillRefusal {
 
 impl FillRefusal {
     /// The number of the sheet's refusal.
+    // By cases: both have one number, which no two discriminants share.
     pub fn number(self) -> u8
         ensures { result ≡ fill_number self }
     {
@@ -74,6 +75,7 @@ pub enum SheetRefusal {
 
 impl SheetRefusal {
     /// The refusal's number.
+    // By cases: a case with a place has no discriminant to read.
     pub fn number(self) -> u8
         ensures { result ≡ sheet_number self }
     {

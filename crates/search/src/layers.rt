@@ -25,8 +25,8 @@ pub(crate) enum Found {
     },
 }
 
-// Rows and `filled` stay two arguments, here and above: a struct that holds the lent slice would have to promise in each contract
-// that it still lends the same one.
+// Rows, `filled` and the buffer of labels stay arguments, here and above: a struct that holds what is lent would have to promise in
+// each contract that it still lends the same.
 
 /// Enters a row behind the first `filled`, unless its position stands there; `None` where no row is left.
 // The body stands once more for next labels, in `successors`: each contract says its own of what is entered.

@@ -13,6 +13,7 @@ fn next_count<T: Filled>(theory: &T, line: &[u8], room: usize, count: usize) -> 
     ensures { result ≡ note_counted (note_by (T.held theory.now)) room count line.now }
 {
     theory.note(line)?;
+    // An `if`: `then_some` would count before it tests.
     if count < room { Some(count + 1) } else { None }
 }
 
@@ -34,6 +35,7 @@ fn write_notes<T: Filled>(theory: &T, lines: Lines, visits: &mut [u16])
     ensures { visits.new ≡ over (codes_of (note_by (T.held theory.now)) (lines_of (drop lines.entry.next lines.entry.text.now))) visits.old }
 {
     let mut lines = lines;
+    // No `zip`: of what is written behind an adapter of `iter_mut` a proof knows nothing.
     for entry in visits.iter_mut() {
         let Some((_, line)) = lines.next() else {
             return;

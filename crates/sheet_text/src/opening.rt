@@ -48,11 +48,7 @@ fn atom<T: Filled>(stage: Stage, theory: &mut T, text: &[u8]) -> Option<Stage>
 fn heading(theory: Heading, found: Option<Heading>, stage: Stage) -> Option<Stage>
     ensures { result ≡ under theory found stage }
 {
-    if found == Some(theory) && stage == Stage::Start {
-        Some(Stage::Headed)
-    } else {
-        None
-    }
+    (found == Some(theory) && stage == Stage::Start).then_some(Stage::Headed)
 }
 
 /// Reads a line before the rules.

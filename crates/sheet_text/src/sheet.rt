@@ -17,7 +17,7 @@ use refusal::SheetRefusal;
 fn is_sheet_byte(byte: u8) -> bool
     ensures { result ≡ sheet_byte byte }
 {
-    byte == b'\n' || (b' ' <= byte && byte <= b'~')
+    matches!(byte, b'\n' | b' '..=b'~')
 }
 
 /// Whether all bytes may stand in a sheet.

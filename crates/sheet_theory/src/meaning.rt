@@ -10,6 +10,7 @@ use theory::{Printable, Theory};
 
 impl SheetTheory {
     /// The theory that a heading names; the other one is let go.
+    // No `From`: two theories go in, and the heading says which comes out.
     pub fn of(heading: Heading, flags: Flags, numbers: Numbers) -> SheetTheory
         ensures { result ≡ theory_of heading flags numbers }
     {

@@ -1,4 +1,4 @@
-use Rattle.std.proofs.Common.{◌≡◌, ℕ, ◌≤◌, List, length, take, ℤ, arith, ap, ap₂, ◌∙◌}
+use Rattle.std.proofs.Common.{◌≡◌, ℕ, ◌≤◌, List, length, take, ℤ, arith, ap₂, ◌∙◌}
 use Rattle.theory.proofs.Texts.{short_answer, short_leaves}
 use Rattle.theory.specs.Print.{spaced, values_answer, values_leave}
 use Rattle.names.proofs.Rosters.{texts_few}

@@ -1,4 +1,4 @@
-use Rattle.std.proofs.Common.{◌≡◌, ◌+◌, ◌<◌, ◌≤◌, length, take, ap, ap₂, sym, ◌∙◌, subst, ℤ, List, [], ◌∷◌, ◌++◌, true, arith, below_more}
+use Rattle.std.proofs.Common.{◌≡◌, ◌+◌, ◌<◌, length, ap, ap₂, sym, ◌∙◌, subst, ℤ, List, [], ◌∷◌, ◌++◌, true, arith, below_more}
 use Rattle.std.proofs.lemmas.List.{take_all, length-take}
 use Rattle.numbers.specs.Codes.{all_values}
 use Rattle.numbers.specs.Limits.{within}

@@ -1,4 +1,4 @@
-use Rattle.std.proofs.Common.{◌≡◌, ℕ, ◌<◌, ◌≤◌, true, length, get_or, pos, take}
+use Rattle.std.proofs.Common.{◌≡◌, ℕ, ◌<◌, true, get_or, pos, take}
 use Rattle.numbers.specs.Codes.{all_values}
 use Rattle.numbers.specs.Limits.{within}
 use Rattle.numbers.specs.Model.{numbers_of}

@@ -1,8 +1,7 @@
-use Rattle.std.proofs.Common.{◌≡◌, ℕ, ◌≤◌, List, length, ℤ, pos, arith, ap, ap₂, sym, subst, ◌∙◌}
+use Rattle.std.proofs.Common.{ℕ, ◌≤◌, List, length, ℤ, arith, ap, ap₂, subst, ◌∙◌}
 use Rattle.std.proofs.lemmas.List.{take_all}
 use Rattle.theory.proofs.Texts.{short_answer, short_leaves}
 use Rattle.theory.specs.Print.{spaced, values_answer, values_leave}
-use Rattle.numbers.proofs.Readings.{count_variables}
 use Rattle.numbers.proofs.Shown.{values_short, values_count}
 use Rattle.numbers.proofs.print.NumbersPrintable.print.Goals as goal
 
