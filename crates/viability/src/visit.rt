@@ -1,12 +1,12 @@
 // One visit as an expansion sees it, and the formulas that have a sound expansion there, from the first number to the last, with no search.
 ghost use Rattle.std.specs.Prelude.{◌≡◌, ◌<◌, ◌≤◌, Decides, length};
 ghost use Rattle.judge.specs.Formulas.{node_at};
-ghost use Rattle.viability.specs.Offers.{chosen, Offered};
+ghost use Rattle.viability.specs.Offers.{chosen, Offered, OffersSide};
 ghost use Rattle.viability.specs.Viable.{FitOffered, FitsSomehow, Viable, Tells};
 ghost use Rattle.viability.specs.Visits.{moment_at, contents_at};
 
 use super::labels::inside;
-use super::offer::{Offer, Side, offer_on};
+use super::offer::{Offer, Side, brings_on, offer_on};
 use ltlf::Book;
 use masks::with;
 
@@ -19,6 +19,18 @@ pub struct Visit<'a> {
 }
 
 impl Visit<'_> {
+    /// What the formula of a number brings on one side, whether it is admitted there or not.
+    ///
+    /// A number that the book does not have counts as true: it brings nothing.
+    pub fn brings(&self, number: u8, side: Side) -> Offer
+        ensures { OffersSide number (node_at (contents_at self.now) number) (chosen side) result }
+    {
+        match self.book.node(number) {
+            Ok(node) => brings_on(node, number, side),
+            Err(_) => Offer::new(0, 0),
+        }
+    }
+
     /// What the formula of a number brings on one side; none where it is not admitted there.
     ///
     /// A number that the book does not have counts as true: it is admitted, and brings nothing.
