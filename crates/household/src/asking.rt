@@ -39,6 +39,7 @@ pub fn question<T: Theory>(
         return Err(Refusal::CountsDiffer);
     }
     let kept = record.kept();
+    // A test and a cut, as in `stands`.
     if visits.len() < kept {
         return Err(Refusal::BadVisitList);
     }
