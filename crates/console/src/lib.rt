@@ -19,6 +19,7 @@ pub fn fill<R: Read>(input: &mut R, buffer: &mut [u8]) -> io::Result<usize>
     ensures end { IfOk result (λ n. n < length buffer.old → IsAtEnd (R.remaining input.new)) }
 {
     let mut filled = 0;
+    // A `while`: a read brings as many bytes as it likes.
     while filled < buffer.len() {
         let n = input.read(&mut buffer[filled..])?;
         if n == 0 {

@@ -33,7 +33,7 @@ pub(crate) enum Operator {
     Fixed(bool, Two),
     /// Two operands follow.
     Pair(Two),
-    /// No operator.
+    /// No operator; a case and no option, as `From` takes every byte.
     Other,
 }
 

@@ -39,9 +39,6 @@ pub fn question<T: Theory>(
         return Err(Refusal::CountsDiffer);
     }
     let kept = record.kept();
-    // A test and a cut, as in `stands`.
-    if visits.len() < kept {
-        return Err(Refusal::BadVisitList);
-    }
-    search(theory, book, &visits[..kept], rows, history)
+    let visits = visits.get(..kept).ok_or(Refusal::BadVisitList)?;
+    search(theory, book, visits, rows, history)
 }

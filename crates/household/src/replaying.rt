@@ -58,8 +58,7 @@ fn ask<T: Theory, O: Observer>(
 }
 
 /// One call of the draw.
-// What is lent stays a parameter each, and that it has room for the kept visits a fact of each contract: a struct of `&mut` would
-// be taken apart again for every call.
+// What is lent stays a parameter each, with its facts: a struct of `&mut` would be taken apart again for every call.
 fn step<T: Theory, O: Observer>(
     record: Record,
     call: &Call<T>,
@@ -73,6 +72,7 @@ fn step<T: Theory, O: Observer>(
     ensures { Stepped O.Observer.hears (record_model «record»).codes (record_model «record»).atoms (take (record_model «record»).kept visits.old) (drawn T.Theory.meaning (length rows.old) (length history.old) call.now) (length visits.old) (record_model result) visits.new observer.old observer.new }
 {
     let mut record = record;
+    // A call is data of a draw, taken apart here alone.
     match call {
         Call::Sync { notes, confirmed } => play_sync(record, visits, *notes, *confirmed, observer),
         Call::Strike => {

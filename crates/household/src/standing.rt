@@ -31,9 +31,6 @@ pub fn stands<T: Theory>(
     if !counts_agree(record, book, theory) {
         return Err(Refusal::CountsDiffer);
     }
-    // A test and a cut: with `get` the refusal and the kept visits would come from one range.
-    if visits.len() < kept {
-        return Err(Refusal::BadVisitList);
-    }
-    judge(theory, book, &visits[..kept])
+    let visits = visits.get(..kept).ok_or(Refusal::BadVisitList)?;
+    judge(theory, book, visits)
 }

@@ -38,6 +38,7 @@ pub(crate) fn descend<R: Keyed + Copy>(
         return Err(EntryError::Broken);
     }
     let mut at = 0;
+    // The number is the depth at which a turn is asked, bounded by the filled cells.
     for depth in 0..filled {
         let here = cells[at];
         if here.item == r {

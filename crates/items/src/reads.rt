@@ -3,6 +3,7 @@ ghost use Rattle.std.specs.Prelude.{◌≡◌};
 ghost use Rattle.items.specs.Reads.{whole};
 
 /// A value that was read, and what follows it.
+// No `map`: where a value becomes another, a `?` stands between, which a closure could not hand on.
 #[derive(Clone, Copy, Drop)]
 pub struct Read<'a, T> {
     pub value: T,

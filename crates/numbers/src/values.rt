@@ -32,6 +32,7 @@ impl Moment {
     }
 }
 
+// Grid, code and what comes next are three arguments below: the grid is the theory's, code and next are the question's.
 impl Term {
     /// The coefficient times the variable's value, where `next` comes next.
     fn amount(self, grid: &Grid, code: u16, next: u16) -> i32

@@ -11,6 +11,7 @@ use intern::{Cell, Slot, find_or_add};
 use successors::NextLabel;
 
 /// What a search that had rows enough has found.
+// Both cases have `filled`: a struct around them would be taken apart in the one place that reads it.
 #[derive(Clone, Copy, Drop)]
 pub(crate) enum Found {
     /// The position of a row ends, and none at a smaller distance does.
@@ -25,8 +26,7 @@ pub(crate) enum Found {
     },
 }
 
-// Rows, `filled` and the buffer of labels stay arguments, here and above: a struct that holds what is lent would have to promise in
-// each contract that it still lends the same.
+// Rows, `filled` and labels stay arguments, with their facts: a struct would promise in each contract that it still lends the same.
 
 /// Enters a row behind the first `filled`, unless its position stands there; `None` where no row is left.
 // The body stands once more for next labels, in `successors`: each contract says its own of what is entered.

@@ -46,6 +46,7 @@ fn run(bytes: &[u8], out: &mut io::Stdout) -> io::Result<()> {
     }
 }
 
+// As in the other program: the buffer is its local, and the runtime comes to `main` alone.
 fn main(rt: HostRuntime) -> io::Result<()> {
     let mut buffer = [0u8; 65537];
     let mut input = rt.stdin();

@@ -28,6 +28,7 @@ fn value(text: &[u8]) -> Option<u16>
 }
 
 /// The code that the values of `flags` flags write, the first the lowest bit.
+// A recursion that falls by a flag: the first value is the lowest bit, so the others come first.
 fn values(text: &[u8], flags: u8) -> Option<u16>
     requires { flags ≤ 12 }
     ensures read { result ≡ values_read flags text.now }
@@ -57,6 +58,7 @@ impl Filled for Flags {
         Some(())
     }
 
+    // The two below differ in the theory's own call.
     fn put_variable(&mut self, text: &[u8]) -> Option<()> {
         self.add_flag(only_name(text)?).ok()
     }

@@ -10,6 +10,7 @@ impl Heading {
     ghost use Rattle.sheet_text.specs.Opening.{heading_of};
 
     /// The heading that a line is.
+    // No `TryFrom`: a line that is no heading is an error only where one is wanted.
     pub(crate) fn of(line: &[u8]) -> Option<Heading>
         ensures { result ≡ heading_of line.now }
     {

@@ -35,7 +35,7 @@ fn write_notes<T: Filled>(theory: &T, lines: Lines, visits: &mut [u16])
     ensures { visits.new ≡ over (codes_of (note_by (T.held theory.now)) (lines_of (drop lines.entry.next lines.entry.text.now))) visits.old }
 {
     let mut lines = lines;
-    // No `zip`: of what is written behind an adapter of `iter_mut` a proof knows nothing.
+    // No `zip`: of what is written through a zipped `iter_mut` a proof knows nothing.
     for entry in visits.iter_mut() {
         let Some((_, line)) = lines.next() else {
             return;

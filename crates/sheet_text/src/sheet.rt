@@ -56,6 +56,7 @@ fn read_text(
     let heading = Heading::of(split_line(bytes).value).ok_or(SheetRefusal::Opening(0))?;
     *flags = Flags::fresh();
     *numbers = Numbers::fresh();
+    // The one choice by heading: below it the theory's own calls differ.
     match heading {
         Heading::Flags => read_sections(bytes, own, trailer, draft, flags, visits),
         Heading::Numbers => read_sections(bytes, own, trailer, draft, numbers, visits),

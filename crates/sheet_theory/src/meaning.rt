@@ -21,6 +21,7 @@ impl SheetTheory {
     }
 }
 
+// Each call goes on to the theory that the case holds.
 impl Theory for SheetTheory {
     ghost meaning = { case_meaning };
 

@@ -1,4 +1,4 @@
-// The expansion, from the greatest open member down.
+// The expansion, from the greatest open member down. Cells are lent, with how many are filled: memory is fixed.
 ghost use Rattle.std.specs.Prelude.{◌≡◌, ◌<◌, ◌≤◌, length};
 ghost use Rattle.viability.specs.Offers.{Inside};
 ghost use Rattle.viability.specs.Visits.{moment_at, contents_at};

@@ -10,6 +10,7 @@ pub struct NextLabel {
     pub formulas: u64,
 }
 
+// The turn is that of a row with another mix: a line, and no function of its own.
 impl Keyed for NextLabel {
     ghost alike = { same_label };
 

@@ -51,6 +51,7 @@ pub fn check_within(
         return Err(Refusal::Unknown);
     }
     let next_exists = next.is_none_or(|n| n < codes);
+    // An `if`: a truth value becomes a result by two calls, no plainer.
     if code < codes && next_exists {
         Ok(())
     } else {

@@ -1,4 +1,4 @@
-// Printing the values of a code.
+// Printing the values of a code, by pieces into lent bytes: memory is fixed, and a `write!` is not ensured to succeed.
 ghost use Rattle.std.specs.Prelude.{◌≡◌, ℕ, List, length, ℤ};
 ghost use Rattle.theory.specs.Print.{item, spaced, print_answer, print_leaves, values_answer, values_leave};
 ghost use Rattle.writer.specs.Puts.{put_answer, put_leaves};

@@ -48,6 +48,7 @@ fn admits(node: Node, side: Side, truth: u64, last: bool) -> bool
 }
 
 /// What a node with a number brings on a side, whether it is admitted there or not.
+// That the number is below 64 is a fact of each contract, here and at a guide: a type for it would reach into every label.
 pub(crate) fn brings_on(node: Node, number: u8, side: Side) -> Offer
     requires { (number < 64) × (OperandsBelow number node) }
     ensures { OffersSide number node (chosen side) result }

@@ -1,5 +1,6 @@
 // Texts and numbers written into the caller's bytes. Rests on `itoa`, which formats a number on the stack.
 // Promises: what fits is written whole and nothing else is touched; what does not fit writes nothing.
+// The bytes are lent, with the place where writing goes on: memory is fixed.
 #![tactic(auto)]
 
 ghost use Rattle.std.specs.Prelude.{◌≡◌, length};

@@ -1,4 +1,4 @@
-use Rattle.std.proofs.Common.{ℕ, length, take, sym, ap, ◌∙◌, subst, arith}
+use Rattle.std.proofs.Common.{◌≡◌, ◌-◌, ℕ, List, length, take, sym, ap, ◌∙◌, subst, arith}
 use Rattle.ltlf.specs.Contents.{book_contents}
 use Rattle.ltlf.proofs.Books.{book_proper, book_few_atoms}
 use Rattle.search.specs.Calls.{search_answer, RowsAfter, HistoryAfter}
@@ -18,10 +18,14 @@ returns g c =
     let history = c.args.history.now in
     let same = c.kept-kept.ensures.value in
     let said = c.search.ensures in
-    let answer = said.answer ∙ ap (λ (n : ℕ). search_answer m b (take n visits) (length rows) (length history)) same
-    ∙ question_answered r b m visits (sym c.if-not-counts_agree.ensures) (omega (arith, same, c.if-visits-kept.false)) (omega (arith, same, c.kept-kept.ensures.few)) (book_few_atoms c.args.book.now) (length rows) (length history) in
-    let filled = subst (λ (n : ℕ). RowsAfter (asked m b (take n visits)) rows c.search.new.rows c.search.result) same said.rows in
-    let shown = subst (λ (n : ℕ). HistoryAfter (asked m b (take n visits)) history c.search.new.history c.search.result) same said.history in
+    let part = (rw c.in_ok-visits.ensures.ok_part at c.get.ensures.lookup).0 in
+    let whole : c.kept-kept.result - 0 ≡ c.kept-kept.result = omega arith in
+    let cut : c.in_ok-visits.visits.now ≡ take c.kept-kept.result visits = part.2 ∙ ap (λ (n : ℕ). take n visits) whole in
+    let kept : c.in_ok-visits.visits.now ≡ take r.kept visits = cut ∙ ap (λ (n : ℕ). take n visits) same in
+    let answer = said.answer ∙ ap (λ (xs : List ℕ). search_answer m b xs (length rows) (length history)) kept
+    ∙ question_answered r b m visits (sym c.if-not-counts_agree.ensures) (omega (arith, same, part.1)) (omega (arith, same, c.kept-kept.ensures.few)) (book_few_atoms c.args.book.now) (length rows) (length history) in
+    let filled = subst (λ (xs : List ℕ). RowsAfter (asked m b xs) rows c.search.new.rows c.search.result) kept said.rows in
+    let shown = subst (λ (xs : List ℕ). HistoryAfter (asked m b xs) history c.search.new.history c.search.result) kept said.history in
     record {
       answer = answer;
       rows = filled;

@@ -1,4 +1,4 @@
-use Rattle.std.proofs.Common.{ℕ, take, sym, ◌∙◌, subst, arith}
+use Rattle.std.proofs.Common.{◌≡◌, ◌-◌, ℕ, List, take, sym, ap, ◌∙◌, subst, arith}
 use Rattle.std.proofs.lemmas.Bool.{ne_eqb}
 use Rattle.ltlf.specs.Contents.{book_contents}
 use Rattle.judge.specs.Judging.{Judged}
@@ -13,6 +13,9 @@ returns g c =
     let m = g.T.Theory.meaning c.args.theory.now in
     let visits = c.args.visits.now in
     let same = c.kept-kept.ensures.value in
-    stood r b m visits (sym c.if-not-counts_agree.ensures) (omega (arith, same, c.if-visits-kept.false)) (ne_eqb _ _ (λ none. c.if-kept-eq0.false (same ∙ none)))
+    let part = (rw c.in_ok-visits.ensures.ok_part at c.get.ensures.lookup).0 in
+    let whole : c.kept-kept.result - 0 ≡ c.kept-kept.result = omega arith in
+    let cut : c.in_ok-visits.visits.now ≡ take c.kept-kept.result visits = part.2 ∙ ap (λ (n : ℕ). take n visits) whole in
+    stood r b m visits (sym c.if-not-counts_agree.ensures) (omega (arith, same, part.1)) (ne_eqb _ _ (λ none. c.if-kept-eq0.false (same ∙ none)))
     c.judge.result
-    (subst (λ (n : ℕ). Judged m b (take n visits) c.judge.result) same c.judge.ensures)
+    (subst (λ (n : ℕ). Judged m b (take n visits) c.judge.result) same (subst (λ (xs : List ℕ). Judged m b xs c.judge.result) cut c.judge.ensures))
