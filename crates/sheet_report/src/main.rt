@@ -34,6 +34,8 @@ fn keep_all(record: Record, notes: &[u16], visits: &mut [u16]) -> Record {
     sync.confirm()
 }
 
+// Output, theory, book and visits are lent to the writer of each line, as each writer asks for others of them.
+
 /// Writes the line of a visit.
 fn write_visit(out: &mut io::Stdout, theory: &SheetTheory, code: u16) -> io::Result<()> {
     let mut line = [0u8; 67];
