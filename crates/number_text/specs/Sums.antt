@@ -1,5 +1,5 @@
 -- The sum of an atom.
-use Rattle.std.specs.Prelude.{ℕ, zero, suc, cond, List, [], ◌∷◌, ℤ, Some, None, Option, ◌==◌}
+use Rattle.std.specs.Prelude.{ℕ, zero, suc, cond, List, [], ◌∷◌, ℤ, Some, None, Option, ◌==◌, take}
 use Rattle.items.specs.Lines.{behind}
 use Rattle.items.specs.Names.{name_read}
 use Rattle.items.specs.Numbers.{integer_read}
@@ -74,7 +74,7 @@ comparison_read [] = None
 comparison_read (b ∷ bs) = cond (b == 60) (Some (less_read bs)) (cond (b == 61) (Some (Equal, bs)) None)
 
 abbrev pub sum_seen : Option Sum → Option AtomModel
-sum_seen (Some s) = Some (as_atom s.terms.items s.comparison s.constant)
+sum_seen (Some s) = Some (as_atom (take s.count s.terms) s.comparison s.constant)
 sum_seen None = None
 
 -- 1 to 4 terms, a comparison, a constant within ±40,000,000, and nothing after it

@@ -81,11 +81,15 @@ fn read_comparison(text: &[u8]) -> Option<Read<Comparison>>
 pub fn read_sum(numbers: &Numbers, text: &[u8]) -> Option<Sum>
     ensures { sum_seen result ≡ sum_read (numbers_of numbers.now).variables text.now }
 {
-    let sum = read_terms(numbers, text)?;
-    let compared = read_comparison(sum.rest)?;
+    let read = read_terms(numbers, text)?;
+    let compared = read_comparison(read.rest)?;
     let constant = read_small(compared.rest, 40_000_000)?.alone()?;
+    let count = read.value.len();
+    let mut terms = [Term::default(); 4];
+    terms[..count].copy_from_slice(read.value.as_slice());
     Some(Sum {
-        terms: sum.value,
+        terms,
+        count,
         comparison: compared.value,
         constant,
     })

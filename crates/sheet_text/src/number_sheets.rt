@@ -29,7 +29,7 @@ impl Filled for Numbers {
 
     fn put_atom(&mut self, text: &[u8]) -> Option<()> {
         let sum = read_sum(self, text)?;
-        self.add_atom(sum.terms.as_slice(), sum.comparison, sum.constant)
+        self.add_atom(&sum.terms[..sum.count], sum.comparison, sum.constant)
             .ok()
     }
 

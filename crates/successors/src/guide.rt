@@ -3,6 +3,7 @@ ghost use Rattle.std.specs.Prelude.{◌≡◌, ◌<◌, ◌≤◌, length, slice
 ghost use Rattle.successors.specs.Guides.{reach_at, must_at, GuidesBelow};
 ghost use Rattle.successors.specs.Handing.{Top};
 ghost use Rattle.successors.specs.Ways.{Gathers, Brings, Covers, Shared};
+ghost use Rattle.viability.specs.Viable.{Viable};
 ghost use Rattle.viability.specs.Visits.{moment_at, contents_at};
 
 use super::ways::{Ways, ways_on};
@@ -101,6 +102,7 @@ fn span_of(ways: Ways, guides: &[Guide; 64]) -> Span
 
 /// Fills in the guides of the formulas that some side fits.
 pub(crate) fn fill(visit: &Visit, able: u64, guides: &mut [Guide; 64])
+    requires { Viable (moment_at visit.now) (contents_at visit.now) able }
     ensures { GuidesBelow (moment_at visit.now) (contents_at visit.now) able guides.new (length (contents_at visit.now).nodes) }
 {
     // A formula's guide is made of those of its parts, which have lower numbers.
