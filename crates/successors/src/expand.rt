@@ -104,12 +104,8 @@ pub fn next_labels(visit: &Visit, label: u64, cells: &mut [Cell<NextLabel>]) -> 
         return Some(0);
     }
     let mut guides = [Guide::NONE; 64];
-    fill(visit, able, &mut guides);
+    let forks = fill(visit, able, &mut guides);
     let given = gathered(&guides, members).must;
-    let forks = guides
-        .iter()
-        .filter(|guide| guide.ways.second.is_some())
-        .count();
     let sight = Sight {
         visit: *visit,
         able,

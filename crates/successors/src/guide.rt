@@ -100,16 +100,19 @@ fn span_of(ways: Ways, guides: &[Guide; 64]) -> Span
     }
 }
 
-/// Fills in the guides of the formulas that some side fits.
-pub(crate) fn fill(visit: &Visit, able: u64, guides: &mut [Guide; 64])
+/// Fills in the guides of the formulas that some side fits, and returns how many of them fork.
+pub(crate) fn fill(visit: &Visit, able: u64, guides: &mut [Guide; 64]) -> u8
     requires { Viable (moment_at visit.now) (contents_at visit.now) able }
     ensures { GuidesBelow (moment_at visit.now) (contents_at visit.now) able guides.new (length (contents_at visit.now).nodes) }
 {
+    let mut forks: u8 = 0;
     // A formula's guide is made of those of its parts, which have lower numbers.
     for number in 0..visit.book.formula_count() {
         if let Some(ways) = ways_on(visit, number, able) {
             let span = span_of(ways, guides);
             guides[number as usize] = Guide { ways, span };
+            forks = forks.saturating_add(u8::from(ways.second.is_some()));
         }
     }
+    forks
 }

@@ -3,8 +3,9 @@ ghost use Rattle.std.specs.Prelude.{◌≡◌, ◌<◌, Decides};
 ghost use Rattle.viability.specs.Moments.{moment, Admits};
 ghost use Rattle.viability.specs.Offers.{chosen, Offered, OffersSide, OperandsBelow};
 
+use super::labels::with;
 use ltlf::Node;
-use masks::{contains, with};
+use masks::contains;
 
 /// The two ways in which an or, an until or a release can be met.
 #[derive(Clone, Copy, PartialEq, Eq, Debug, Drop)]
@@ -72,5 +73,8 @@ pub(crate) fn offer_on(node: Node, number: u8, side: Side, truth: u64, last: boo
     requires { (number < 64) × (OperandsBelow number node) }
     ensures { Offered (moment truth last) number node (chosen side) result }
 {
-    admits(node, side, truth, last).then_some(brings_on(node, number, side))
+    if !admits(node, side, truth, last) {
+        return None;
+    }
+    Some(brings_on(node, number, side))
 }

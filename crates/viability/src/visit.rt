@@ -5,10 +5,9 @@ ghost use Rattle.viability.specs.Offers.{chosen, Offered, OffersSide};
 ghost use Rattle.viability.specs.Viable.{FitOffered, FitsSomehow, Viable, Tells};
 ghost use Rattle.viability.specs.Visits.{moment_at, contents_at};
 
-use super::labels::inside;
+use super::labels::{inside, with};
 use super::offer::{Offer, Side, brings_on, offer_on};
 use ltlf::Book;
-use masks::with;
 
 /// A visit: the book, the atoms that hold there, as a mask, and whether it is the last.
 #[derive(Clone, Copy)]
@@ -34,6 +33,8 @@ impl Visit<'_> {
     /// What the formula of a number brings on one side; none where it is not admitted there.
     ///
     /// A number that the book does not have counts as true: it is admitted, and brings nothing.
+    // Inlined, as is `fitting`: each call names its side, and where an offer is only tested none is made.
+    #[inline(always)]
     pub fn offer(&self, number: u8, side: Side) -> Option<Offer>
         ensures { Offered (moment_at self.now) number (node_at (contents_at self.now) number) (chosen side) result }
     {
@@ -44,6 +45,7 @@ impl Visit<'_> {
     }
 
     /// The offer of a formula on one side, where it is admitted with parts among `able` alone.
+    #[inline(always)]
     pub fn fitting(&self, number: u8, side: Side, able: u64) -> Option<Offer>
         ensures { FitOffered (moment_at self.now) (contents_at self.now) able number (chosen side) result }
     {

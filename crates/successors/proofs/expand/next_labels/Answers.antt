@@ -24,16 +24,16 @@ returns-then-not-inside c =
     c.viable-able.ensures.tells c.known_part-members.ensures (λ h. false≢true (c.if-not-inside.ensures.1 h)) _
 
 pub expand_with-requires-clause-guided : goal.expand_with-requires-clause-guided
-expand_with-requires-clause-guided c = record { proper = book_proper c.args.visit.now.book.now; viable = c.viable-able.ensures.fit; guides_are = c.fill.ensures }
+expand_with-requires-clause-guided c = record { proper = book_proper c.args.visit.now.book.now; viable = c.viable-able.ensures.fit; guides_are = c.fill-forks.ensures }
 
 pub expand_with-requires-2-clause-guided : goal.expand_with-requires-2-clause-guided
-expand_with-requires-2-clause-guided c = record { proper = book_proper c.args.visit.now.book.now; viable = c.viable-able.ensures.fit; guides_are = c.fill.ensures }
+expand_with-requires-2-clause-guided c = record { proper = book_proper c.args.visit.now.book.now; viable = c.viable-able.ensures.fit; guides_are = c.fill-forks.ensures }
 
 pub returns-then-forks-gt6 : goal.returns-then-forks-gt6
 returns-then-forks-gt6 c =
     let v = c.args.visit.now in
     let pr = book_proper v.book.now in
-    let gd : Guided (moment_at v) (contents_at v) c.viable-able.result c.fill.new.guides = record { proper = pr; viable = c.viable-able.ensures.fit; guides_are = c.fill.ensures } in
+    let gd : Guided (moment_at v) (contents_at v) c.viable-able.result c.fill-forks.new.guides = record { proper = pr; viable = c.viable-able.ensures.fit; guides_are = c.fill-forks.ensures } in
     lists_next (contents_at v) pr v.truth v.last c.args.label _ c.known_part-members.ensures _ _ _
     (filled_begin gd c.known_part-members.result _ (c.if-not-inside.ensures.0 refl) c.gathered-given.ensures.1 _ _ _ _ c.expand_with.ensures)
 
@@ -41,6 +41,6 @@ pub returns : goal.returns
 returns c =
     let v = c.args.visit.now in
     let pr = book_proper v.book.now in
-    let gd : Guided (moment_at v) (contents_at v) c.viable-able.result c.fill.new.guides = record { proper = pr; viable = c.viable-able.ensures.fit; guides_are = c.fill.ensures } in
+    let gd : Guided (moment_at v) (contents_at v) c.viable-able.result c.fill-forks.new.guides = record { proper = pr; viable = c.viable-able.ensures.fit; guides_are = c.fill-forks.ensures } in
     lists_next (contents_at v) pr v.truth v.last c.args.label _ c.known_part-members.ensures _ _ _
     (filled_begin gd c.known_part-members.result _ (c.if-not-inside.ensures.0 refl) c.gathered-given.ensures.1 _ _ _ _ c.expand_with-2.ensures)
