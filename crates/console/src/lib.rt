@@ -1,14 +1,15 @@
-// The input and the output of the programs: a sheet's bytes from one, lines to the other. Rests on `refusal` and `report`.
+// The input and the output of the programs: a sheet's bytes from one, lines to the other. Rests on `refusal`, `judge` and `report`.
 // Promises: what is read stands at the front of the buffer, and no byte of it is lost; a line is passed on as it was made.
 #![tactic(auto)]
 
 ghost use Rattle.std.specs.Prelude.{◌<◌, ◌≤◌, length, take, IfOk, OnOk};
 ghost use Rattle.std.specs.Io.KnownBytes.{Appends, Consumes, IsAtEnd};
-ghost use Rattle.report.specs.Lines.{refused_text};
+ghost use Rattle.report.specs.Lines.{refused_text, stands_text};
 ghost use Rattle.console.specs.Passed.{passed};
 
+use judge::Judgement;
 use refusal::{Refusal, SheetRefusal};
-use report::refused_line;
+use report::{refused_line, stands_line};
 use std::io;
 use std::io::{Read, Write};
 
@@ -46,5 +47,14 @@ pub fn refuse<W: Write>(out: &mut W, refusal: SheetRefusal) -> io::Result<()>
 {
     let mut line = [0u8; 64];
     let made = refused_line(&mut line, refusal);
+    pass_on(out, &line, made)
+}
+
+/// Writes the line of the judge's answer on the kept visits.
+pub fn stand<W: Write>(out: &mut W, judged: Result<Judgement, Refusal>) -> io::Result<()>
+    ensures { OnOk result (Appends (W.contents out.old) (W.contents out.new) (stands_text judged)) }
+{
+    let mut line = [0u8; 64];
+    let made = stands_line(&mut line, judged);
     pass_on(out, &line, made)
 }

@@ -5,7 +5,7 @@ use Rattle.std.proofs.lemmas.Bool.{cond-true, cond-false, cases_Bool}
 use Rattle.intern.specs.declared.Slot.{Slot}
 use Rattle.intern.specs.declared.Slot.TheVariants.{Found, Added}
 use Rattle.intern.specs.declared.EntryError.{EntryError}
-use Rattle.intern.specs.declared.EntryError.TheVariants.{Full}
+use Rattle.intern.specs.declared.EntryError.TheVariants.{Full, Broken}
 use Rattle.intern.specs.Entry.{room}
 use Rattle.intern.specs.Index.{further, place}
 use Rattle.intern.specs.Settled.{slot_of}
@@ -23,6 +23,11 @@ new_refused : (s : Result Slot EntryError) (n : ℕ) (why : EntryError) (b : Boo
 new_refused s n why true e f = let z : ◌≡◌ {A = ℕ} 0 1 = cc in absurd (omega arith)
 new_refused s n why false e f = refl
 
+-- nor is it a broken one
+new_broken : (s : Result Slot EntryError) (n : ℕ) (b : Bool) → s ≡ cond b (Ok (Added n)) (Err Full) → s ≡ Err Broken → ⊥
+new_broken s n true e f = let z : ◌≡◌ {A = ℕ} 0 1 = cc in omega arith
+new_broken s n false e f = let z : ◌≡◌ {A = ℕ} 0 1 = cc in omega arith
+
 pub slot_found : (o : Option ℕ) (k n len : ℕ) → Ok (Found k) ≡ slot_of o n len → o ≡ Some k
 slot_found (Some j) k n len e = cc
 slot_found None k n len e = absurd (never (Ok (Found k)) k n (room n len) e refl)
@@ -35,6 +40,13 @@ slot_added None k n len e = let p = new_added (Ok (Added k)) k n (room n len) e 
 pub slot_refused : (o : Option ℕ) (why : EntryError) (n len : ℕ) → Err why ≡ slot_of o n len → (o ≡ None) × (room n len ≡ false)
 slot_refused (Some j) why n len e = let z : ◌≡◌ {A = ℕ} 0 1 = cc in absurd (omega arith)
 slot_refused None why n len e = (refl, new_refused (Err why) n why (room n len) e refl)
+
+pub slot_full : (o : Option ℕ) (n len : ℕ) → Err Full ≡ slot_of o n len → (o ≡ None) × (room n len ≡ false)
+slot_full o n len e = slot_refused o Full n len e
+
+pub slot_broken : (o : Option ℕ) (n len : ℕ) → Err Broken ≡ slot_of o n len → ⊥
+slot_broken (Some j) n len e = let z : ◌≡◌ {A = ℕ} 0 1 = cc in omega arith
+slot_broken None n len e = new_broken (Err Broken) n (room n len) e refl
 
 -- an answer by what `ok` makes of it
 pub is_slot : (s : Result Slot EntryError) (x : Slot) → Some x ≡ result_ok s → s ≡ Ok x

@@ -5,12 +5,13 @@ use Rattle.std.proofs.lemmas.Bool.{cond-true, cond-false, and_parts, and_cases, 
 use Rattle.refusal.specs.declared.Refusal.TheVariants.{Unknown, TooManyFormulas}
 use Rattle.intern.specs.declared.cell.Cell.{Cell}
 use Rattle.intern.specs.declared.EntryError.{EntryError}
+use Rattle.intern.specs.declared.EntryError.TheVariants.{Broken}
 use Rattle.intern.specs.declared.Slot.TheVariants.{Found, Added}
 use Rattle.intern.specs.Entry.{room}
 use Rattle.intern.specs.Index.{items, place}
 use Rattle.intern.specs.Settled.{Settled}
 use Rattle.intern.proofs.Places.{length_items}
-use Rattle.intern.proofs.Slots.{slot_found, slot_added, slot_refused, place_below}
+use Rattle.intern.proofs.Slots.{slot_found, slot_added, slot_refused, slot_broken, place_below}
 use Rattle.ltlf.specs.Nodes.{known, same, node_turn}
 use Rattle.ltlf.specs.Contents.{Contents, numbered, put_answer, with_new, put_leaves}
 use Rattle.ltlf.specs.declared.node.Node.{Node}
@@ -108,3 +109,7 @@ module _ (codes atoms : ℕ) (rules : List ℕ) (cells : List (Cell Node)) (n : 
         sym (cond-false _ _ _ past) ∙ known_answer None slot_none.0,
         ap holding (s.items_are ∙ sym (cond-false _ _ _ past)) ∙ known_leaves None slot_none.0,
       )
+
+    -- the index never leads astray
+    pub never_broken : (after : List (Cell Node)) → Settled same node_turn cells n node (Err Broken) after → ⊥
+    never_broken after s = slot_broken (place same node (items cells n)) n (length cells) s.slot_is

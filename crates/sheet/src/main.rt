@@ -2,12 +2,12 @@
 // It holds no logic of its own: public calls read the sheet, judge its notes and make every line.
 #![tactic(auto)]
 
-use console::{fill, pass_on, refuse};
+use console::{fill, pass_on, refuse, stand};
 use flags::Flags;
 use judge::judge;
 use ltlf::{Book, Draft};
 use numbers::Numbers;
-use report::{kept_line, stands_line};
+use report::kept_line;
 use sheet_text::{Heading, read_sheet};
 use std::io;
 use theory::Theory;
@@ -23,8 +23,7 @@ fn report<T: Theory>(
     let made = kept_line(&mut line, visits.len() as u64);
     pass_on(out, &line, made)?;
     // Of an accepted sheet's notes the judge refuses only none at all.
-    let made = stands_line(&mut line, judge(theory, book, visits));
-    pass_on(out, &line, made)
+    stand(out, judge(theory, book, visits))
 }
 
 /// Reads the sheet and writes its report.

@@ -3,7 +3,7 @@
 #![tactic(auto)]
 
 use answer::{history_of, rows_of, verdict_of};
-use console::{fill, pass_on, refuse};
+use console::{fill, pass_on, refuse, stand};
 use flags::Flags;
 use household::{question, stands};
 use intern::Cell;
@@ -11,7 +11,7 @@ use ltlf::{Book, Draft};
 use numbers::Numbers;
 use record::Record;
 use refusal::Refusal;
-use report::{kept_line, question_refused_line, rows_line, stands_line, verdict_line, visit_line};
+use report::{kept_line, question_refused_line, rows_line, verdict_line, visit_line};
 use search::{Outcome, Row};
 use sheet_text::read_sheet;
 use sheet_theory::SheetTheory;
@@ -63,8 +63,7 @@ fn write_kept(
     let made = kept_line(&mut line, record.kept() as u64);
     pass_on(out, &line, made)?;
     // Of an accepted sheet's visits only none at all are refused.
-    let made = stands_line(&mut line, stands(record, book, theory, visits));
-    pass_on(out, &line, made)
+    stand(out, stands(record, book, theory, visits))
 }
 
 /// Writes the verdict, the row count and the history that is shown.
