@@ -23,6 +23,6 @@ impl Theory for Flags {
     fn holds(&self, atom: u8, code: u16, next: Option<u16>) -> Result<bool, Refusal> {
         theory::check_within(self.code_count(), self.atom_count(), atom, code, next)?;
         let flag = self.atoms[atom as usize];
-        Ok(masks::contains(u64::from(code), flag))
+        Ok((code >> flag) % 2 == 1)
     }
 }

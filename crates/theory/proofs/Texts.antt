@@ -1,13 +1,13 @@
 -- One value more of a printed text.
-use Rattle.std.proofs.Common.{◌≡◌, ℕ, ◌+◌, ◌^◌, ◌<◌, ◌≤◌, Bool, true, false, cond, eqb, leb, List, [], ◌∷◌, ◌++◌, length, get_or, take, drop, fold, ℤ, pos, Some, None, Err, inl, inr, take-append-drop, sym, ap, ◌∙◌, ap₂, arith, length-append, w32, SFits, to_z, of_z}
+use Rattle.std.proofs.Common.{◌≡◌, ℕ, suc, ◌+◌, ◌-◌, ◌^◌, ◌<◌, ◌≤◌, Bool, true, false, cond, eqb, leb, List, [], ◌∷◌, ◌++◌, length, get_or, take, drop, fold, ℤ, pos, negsuc, nat_abs, ◌≤ℤ◌, ◌<ℤ◌, append_assoc, zero-add, Some, None, Err, inl, inr, take-append-drop, sym, ap, ◌∙◌, ap₂, arith, length-append, w32, SFits, to_z, of_z}
 use lib.Signed.{mag}
-use Rattle.std.proofs.lemmas.Fmt.{length_signed_le}
-use Rattle.std.proofs.lemmas.Int.{to_z-of_z}
-use Rattle.std.proofs.lemmas.List.{take_more}
+use Rattle.std.proofs.lemmas.Fmt.{length_signed_le, decimal_digit}
+use Rattle.std.proofs.lemmas.Int.{ints, to_z-of_z}
+use Rattle.std.proofs.lemmas.List.{take_more, drop-take, drop-drop}
 use Rattle.std.proofs.lemmas.List.Sums.{fold_push, fold-append}
 use Rattle.std.specs.Fmt.{signed_decimal}
 use Rattle.writer.proofs.Firsts.{room_for}
-use Rattle.std.proofs.lemmas.Bool.{cond-true, cond-false, lt-ltb, le-ltb, leb-true, leb-false, cases_Bool}
+use Rattle.std.proofs.lemmas.Bool.{cond-true, cond-false, lt-ltb, le-ltb, leb-true, leb-false, cases_Bool, eq-eqb, ne_eqb}
 use Rattle.refusal.specs.declared.Refusal.TheVariants.{BadBuffer}
 use Rattle.writer.proofs.Puts.{fit_answer, fit_leaves, put_put}
 use Rattle.writer.specs.Puts.{put_at, put_answer, put_leaves}
@@ -20,6 +20,32 @@ item_by false z k h = omega arith
 
 pub item_short : (at : ℕ) (z : ℤ) (k : ℕ) → mag z + 1 < 10 ^ k → mag z < 2 ^ 63 → length (item at z) ≤ k + 2
 item_short at z k small bounded = omega (arith, item_by (eqb at 0) z (k + 1) (length_signed_le k z small bounded))
+
+-- a value of one digit, as the code passes it
+one_digit : (z : ℤ) → pos 0 ≤ℤ z → z <ℤ pos 10 → (48 + nat_abs z) ∷ [] ≡ signed_decimal z
+one_digit (pos n) low high = sym (decimal_digit n (omega (arith, ints)))
+one_digit (negsuc n) low high = absurd (omega (arith, ints))
+
+minus_digit : (z : ℤ) → negsuc 8 ≤ℤ z → z <ℤ pos 0 → 45 ∷ (48 + nat_abs z) ∷ [] ≡ signed_decimal z
+minus_digit (pos n) low high = absurd (omega (arith, ints))
+minus_digit (negsuc n) low high = ap (λ ds. 45 ∷ ds) (sym (decimal_digit (suc n) (omega (arith, ints))))
+
+pub minus_text : (z : ℤ) → SFits w32 z → negsuc 8 ≤ℤ z → z <ℤ pos 0 → (magnitude : ℕ) → magnitude ≡ nat_abs (to_z w32 (of_z w32 z)) → 45 ∷ (48 + magnitude) ∷ [] ≡ signed_decimal z
+minus_text z z-fits low high magnitude is =
+    ap (λ n. 45 ∷ (48 + n) ∷ []) (is ∙ ap nat_abs (to_z-of_z w32 z z-fits)) ∙ minus_digit z low high
+
+module _ (at : ℕ) (z : ℤ) (z-fits : SFits w32 z) (low : pos 0 ≤ℤ z) (high : z <ℤ pos 10) where
+  abbrev digit : ℕ
+  digit = 48 + nat_abs (to_z w32 (of_z w32 z))
+
+  digit_text : digit ∷ [] ≡ signed_decimal z
+  digit_text = ap (λ (x : ℤ). (48 + nat_abs x) ∷ []) (to_z-of_z w32 z z-fits) ∙ one_digit z low high
+
+  pub first_digit : at ≡ 0 → digit ∷ [] ≡ item at z
+  first_digit first = digit_text ∙ sym (cond-true _ _ _ (eq-eqb at 0 first))
+
+  pub later_digit : (at ≡ 0 → ⊥) → 32 ∷ digit ∷ [] ≡ item at z
+  later_digit later = ap (λ ds. 32 ∷ ds) digit_text ∙ sym (cond-false _ _ _ (ne_eqb at 0 later))
 
 pub spaced_push : (zs : List ℤ) (z : ℤ) → spaced (zs ++ z ∷ []) ≡ spaced zs ++ item (length (spaced zs)) z
 spaced_push zs z = fold_push (λ text z. text ++ item (length text) z) [] zs z
@@ -39,6 +65,20 @@ print_more bytes zs z at e out after is_at is-out some is-after =
           ∙ put_put bytes text (item (length text) z)
           ∙ ap (put_at bytes 0) (sym (spaced_push zs z)),
     )
+
+-- a text put over the first bytes alone is put over all of them
+pub put_front : (bytes text : List ℕ) (room : ℕ) → length text ≤ room → put_at (take room bytes) 0 text ++ drop room bytes ≡ put_at bytes 0 text
+put_front bytes text room h =
+    let n = length text in
+    let m = room - n in
+    let whole : n + m ≡ room = omega arith in
+    let rest : drop n (take (n + m) bytes) ++ drop (n + m) bytes ≡ drop n bytes =
+    ap₂ (λ xs ys. xs ++ ys) (drop-take n m bytes) (sym (drop-drop m n bytes)) ∙ take-append-drop m (drop n bytes) in
+    ap (λ k. (text ++ drop k (take room bytes)) ++ drop room bytes) (zero-add n)
+    ∙ append_assoc text (drop n (take room bytes)) (drop room bytes)
+    ∙ ap (λ k. text ++ (drop n (take k bytes) ++ drop k bytes)) (sym whole)
+    ∙ ap (λ r. text ++ r) rest
+    ∙ ap (λ k. text ++ drop k bytes) (sym (zero-add n))
 
 -- a text only grows with its values
 grows_by : (ys : List ℤ) (text : List ℕ) → length text ≤ length (fold (λ text z. text ++ item (length text) z) text ys)
@@ -98,6 +138,9 @@ module _ (codes code : ℕ) (bytes text : List ℕ) where
 
   pub long_answer : code < codes → 64 < length text → values_answer codes code (length bytes) text ≡ Err BadBuffer
   long_answer exists h = ap (λ room. print_answer codes code room text) (cond-true _ _ _ (lt-ltb 64 (length text) h)) ∙ cond-true _ _ _ (lt-ltb code codes exists)
+
+  pub whole_leaves : code < codes → 64 ≤ length bytes → length text ≤ 64 → values_leave codes code bytes text ≡ put_at bytes 0 text
+  whole_leaves exists room h = short_leaves h ∙ cond-true _ _ _ (lt-ltb code codes exists) ∙ cond-false _ _ _ (le-ltb (length bytes) 64 room)
 
   pub long_leaves : 64 < length text → values_leave codes code bytes text ≡ bytes
   long_leaves h = cond-true _ _ _ (lt-ltb 64 (length text) h)

@@ -1,4 +1,4 @@
-use Rattle.std.proofs.Common.{◌≡◌, ◌≤◌, length, replicate, take}
+use Rattle.std.proofs.Common.{◌≡◌, ◌≤◌, length, take}
 use Rattle.writer.specs.Puts.{put_at}
 use Rattle.theory.specs.Print.{spaced}
 use Rattle.theory.proofs.print.print_values.Given as goal
@@ -7,4 +7,4 @@ use Rattle.theory.proofs.print.print_values.Given as goal
 abbrev pub invariant-loop-value : goal.invariant-loop-value
 invariant-loop-value l =
     let text = spaced (take l.value-index l.values) in
-    (l.at ≡ length text) × (l.text ≡ put_at (replicate 64 0) 0 text) × (l.at ≤ 64)
+    (l.at ≡ length text) × (l.text ≡ put_at (take 64 l.out) 0 text) × (l.at ≤ 64)
