@@ -41,6 +41,8 @@ pub fn pass_on<W: Write>(out: &mut W, line: &[u8], made: Result<usize, Refusal>)
     }
 }
 
+// The two calls below differ in the line that is made; one function for both would take its maker as a closure.
+
 /// Writes the line of a refused sheet.
 pub fn refuse<W: Write>(out: &mut W, refusal: SheetRefusal) -> io::Result<()>
     ensures { OnOk result (Appends (W.contents out.old) (W.contents out.new) (refused_text refusal)) }
