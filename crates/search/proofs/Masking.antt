@@ -14,13 +14,11 @@ use Rattle.viability.specs.Moments.{Shows}
 use Rattle.search.specs.Questions.{Shown, facts_at}
 
 -- what is read of an atom that exists, at a code and before a next that do
-pub fact_read : (m : Meaning) (a c : ℕ) (n : Option ℕ) (o : Result Bool Refusal) (held : Bool) → a < m.atoms → c < m.codes → next_exists m.codes n ≡ true
-    → o ≡ answer m a c n → held ≡ result_unwrap_or o false → m.fact a c n ≡ held
-fact_read m a c n o held atom code next e is =
-    sym
-    (is ∙ ap (λ r. result_unwrap_or r false) e
-    ∙ ap (λ (r : Result (Unit {0}) Refusal). result_unwrap_or (unless_refused r (m.fact a c n)) false)
-    (cond-true _ _ _ (lt-ltb a m.atoms atom) ∙ cond-true _ _ _ (and_from _ _ (lt-ltb c m.codes code) next)))
+pub fact_read : (m : Meaning) (a c : ℕ) (n : Option ℕ) → a < m.atoms → c < m.codes → next_exists m.codes n ≡ true
+    → result_unwrap_or (answer m a c n) false ≡ m.fact a c n
+fact_read m a c n atom code next =
+    ap (λ (r : Result (Unit {0}) Refusal). result_unwrap_or (unless_refused r (m.fact a c n)) false)
+    (cond-true _ _ _ (lt-ltb a m.atoms atom) ∙ cond-true _ _ _ (and_from _ _ (lt-ltb c m.codes code) next))
 
 module _ (m : Meaning) (c : ℕ) (n : Option ℕ) where
   pub shown_none : Shown m c n 0 0

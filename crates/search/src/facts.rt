@@ -12,12 +12,11 @@ pub(crate) fn truth_at<T: Theory>(theory: &T, atoms: u8, code: u16, next: Option
     ensures { Shown (T.Theory.meaning theory.now) code next result atoms }
 {
     let mut truth = 0;
-    // The number is an atom, not an index: a theory answers by it. Its bound spares the test in `with`.
-    for atom in 0..atoms.min(32) {
-        if !theory.holds(atom, code, next).unwrap_or(false) {
-            continue;
+    // The number is an atom, not an index: a theory answers by it.
+    for atom in 0..atoms {
+        if theory.holds(atom, code, next).unwrap_or(false) {
+            truth = with(truth, atom);
         }
-        truth = with(truth, atom);
     }
     truth
 }
