@@ -1,9 +1,11 @@
 -- The mask of the atoms that hold.
 use Rattle.std.specs.Prelude.{Option}
-use Rattle.std.proofs.Common.{◌≡◌, ℕ, ◌+◌, ◌^◌, ◌<◌, Bool, true, false, Result, sym, refl, ap, ◌∙◌, subst, inl, inr, arith}
+use Rattle.std.proofs.Common.{◌≡◌, ℕ, ◌+◌, ◌^◌, ◌<◌, Bool, true, false, cond, Result, sym, refl, ap, ◌∙◌, subst, inl, inr, arith}
 use lib.Bits.{bit_or}
 use Rattle.std.proofs.lemmas.Bool.{cases_eq, both_ways, cond-true, and_from, lt-ltb}
 use Rattle.std.specs.Result.{result_unwrap_or}
+use Rattle.masks.specs.Masks.{including}
+use Rattle.masks.proofs.Bits.{including_is}
 use Rattle.refusal.specs.declared.Refusal.{Refusal}
 use Rattle.theory.specs.Meaning.{Meaning, next_exists, unless_refused, answer}
 use Rattle.judge.specs.Marks.{is_last}
@@ -49,6 +51,12 @@ module _ (m : Meaning) (c : ℕ) (n : Option ℕ) where
           | inr not-here ↦ (s a).1 (omega arith, h.1)
         ]),
   )
+
+  -- the mask with one more atom, where it holds
+  pub shown_next : (held : Bool) (mask k more : ℕ) → k < 64 → Shown m c n mask k → held ≡ m.fact k c n → more ≡ cond held (including mask k) mask
+      → Shown m c n more (k + 1)
+  shown_next true mask k more lt s f e = shown_with mask k more s (sym f) (e ∙ including_is mask k lt)
+  shown_next false mask k more lt s f e = subst (λ (x : ℕ). Shown m c n x (k + 1)) (sym e) (shown_without mask k s (sym f))
 
   same_truth : (b t : Bool) → (b ≡ true → t ≡ true) → (t ≡ true → b ≡ true) → b ≡ t
   same_truth true t to from = sym (to refl)
