@@ -4,11 +4,20 @@ ghost use Rattle.theory.specs.Meaning.{next_exists};
 ghost use Rattle.ltlf.specs.Nodes.{known};
 ghost use Rattle.ltlf.specs.Contents.{book_contents};
 ghost use Rattle.judge.specs.Judging.{same_counts};
-ghost use Rattle.judge.specs.Marks.{node_held, Passed};
+ghost use Rattle.judge.specs.Marks.{marked, node_held, Passed};
 
 use ltlf::{Book, Node};
 use masks::{contains, with};
 use theory::Theory;
+
+/// Whether a formula of a book is marked.
+// Its number is its own remainder, which spares the test in `contains`: this is asked for each operand at every visit.
+fn marked(marks: u64, number: u8) -> bool
+    requires { number < 64 }
+    ensures { result ≡ marked marks number }
+{
+    contains(marks, number % 64)
+}
 
 // Code and next are two arguments, as a theory takes them.
 
@@ -22,7 +31,7 @@ fn node_holds<T: Theory>(
     number: u8,
     node: Node,
 ) -> bool
-    requires { (known (T.Theory.meaning theory.now).atoms number node ≡ true) × ((code < (T.Theory.meaning theory.now).codes) × (next_exists (T.Theory.meaning theory.now).codes next ≡ true)) }
+    requires { (number < 64) × ((known (T.Theory.meaning theory.now).atoms number node ≡ true) × ((code < (T.Theory.meaning theory.now).codes) × (next_exists (T.Theory.meaning theory.now).codes next ≡ true))) }
     ensures { result ≡ node_held (T.Theory.meaning theory.now) code next here later number node }
 {
     let last = next.is_none();
@@ -31,14 +40,13 @@ fn node_holds<T: Theory>(
         Node::False => false,
         Node::Atom(a) => theory.holds(a, code, next).unwrap_or(false),
         Node::NotAtom(a) => !theory.holds(a, code, next).unwrap_or(false),
-        Node::And(f, g) => contains(here, f) && contains(here, g),
-        Node::Or(f, g) => contains(here, f) || contains(here, g),
-        Node::Tomorrow(f) => !last && contains(later, f),
-        Node::WeakTomorrow(f) => last || contains(later, f),
-        Node::Until(f, g) => contains(here, g)
-            || contains(here, f) && !last && contains(later, number),
-        Node::Release(f, g) => contains(here, g)
-            && (contains(here, f) || last || contains(later, number)),
+        Node::And(f, g) => marked(here, f) && marked(here, g),
+        Node::Or(f, g) => marked(here, f) || marked(here, g),
+        Node::Tomorrow(f) => !last && marked(later, f),
+        Node::WeakTomorrow(f) => last || marked(later, f),
+        Node::Until(f, g) => marked(here, g) || marked(here, f) && !last && marked(later, number),
+        Node::Release(f, g) => marked(here, g)
+            && (marked(here, f) || last || marked(later, number)),
     }
 }
 

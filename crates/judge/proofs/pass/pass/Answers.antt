@@ -12,9 +12,12 @@ use Rattle.judge.proofs.pass.pass.Goals as goal
 pub node_holds-requires : goal.node_holds-requires
 node_holds-requires g c =
     let b = book_contents c.args.book.now in (
-      node_known (g.T.Theory.meaning c.args.theory.now) b c.requires.counts (book_proper c.args.book.now) c.loop-number.number _ (omega arith)
-          (c.unwrap_or-node.ensures ∙ read_or b.nodes c.loop-number.number True c.node.result c.node.ensures),
-      c.requires.exist,
+      omega arith,
+      (
+        node_known (g.T.Theory.meaning c.args.theory.now) b c.requires.counts (book_proper c.args.book.now) c.loop-number.number _ (omega arith)
+            (c.unwrap_or-node.ensures ∙ read_or b.nodes c.loop-number.number True c.node.result c.node.ensures),
+        c.requires.exist,
+      ),
     )
 
 pub loop-number-preserved : goal.loop-number-preserved
