@@ -1,13 +1,13 @@
 -- One value more of a printed text.
-use Rattle.std.proofs.Common.{◌≡◌, ℕ, suc, ◌+◌, ◌-◌, ◌^◌, ◌<◌, ◌≤◌, Bool, true, false, cond, eqb, leb, List, [], ◌∷◌, ◌++◌, length, get_or, take, drop, fold, ℤ, pos, negsuc, nat_abs, ◌≤ℤ◌, ◌<ℤ◌, append_assoc, zero-add, Some, None, Err, inl, inr, take-append-drop, sym, ap, ◌∙◌, ap₂, arith, length-append, w32, SFits, to_z, of_z}
-use lib.Signed.{mag}
-use Rattle.std.proofs.lemmas.Fmt.{length_signed_le, decimal_digit}
+use Rattle.std.proofs.Common.{◌≡◌, ℕ, suc, ◌+◌, ◌-◌, ◌/◌, ◌%◌, ◌^◌, ◌<◌, ◌≤◌, Bool, true, false, cond, eqb, leb, List, [], ◌∷◌, ◌++◌, length, get_or, take, drop, fold, ℤ, pos, negsuc, nat_abs, ◌≤ℤ◌, ◌<ℤ◌, append_assoc, zero-add, Some, None, Err, inl, inr, take-append-drop, refl, sym, ap, ◌∙◌, ap₂, arith, length-append, w32, SFits, to_z, of_z}
+use lib.Signed.{mag, lt_z}
+use Rattle.std.proofs.lemmas.Fmt.{length_signed_le, decimal_digit, decimal_step}
 use Rattle.std.proofs.lemmas.Int.{ints, to_z-of_z}
 use Rattle.std.proofs.lemmas.List.{take_more, drop-take, drop-drop}
 use Rattle.std.proofs.lemmas.List.Sums.{fold_push, fold-append}
-use Rattle.std.specs.Fmt.{signed_decimal}
+use Rattle.std.specs.Fmt.{decimal, signed_decimal}
 use Rattle.writer.proofs.Firsts.{room_for}
-use Rattle.std.proofs.lemmas.Bool.{cond-true, cond-false, lt-ltb, le-ltb, leb-true, leb-false, cases_Bool, eq-eqb, ne_eqb}
+use Rattle.std.proofs.lemmas.Bool.{cond-true, cond-false, lt-ltb, le-ltb, leb-true, leb-false, both_ways, cases_Bool, eq-eqb, ne_eqb}
 use Rattle.refusal.specs.declared.Refusal.TheVariants.{BadBuffer}
 use Rattle.writer.proofs.Puts.{fit_answer, fit_leaves, put_put}
 use Rattle.writer.specs.Puts.{put_at, put_answer, put_leaves}
@@ -34,6 +34,39 @@ pub minus_text : (z : ℤ) → SFits w32 z → negsuc 8 ≤ℤ z → z <ℤ pos 
 minus_text z z-fits low high magnitude is =
     ap (λ n. 45 ∷ (48 + n) ∷ []) (is ∙ ap nat_abs (to_z-of_z w32 z z-fits)) ∙ minus_digit z low high
 
+-- a value of two digits, as the code passes it
+two_digits : (n : ℕ) → 10 ≤ n → n < 100 → (48 + n / 10) ∷ (48 + n % 10) ∷ [] ≡ decimal n
+two_digits n low high = sym (decimal_step n low (omega arith) ∙ ap (λ ds. ds ++ (48 + n % 10) ∷ []) (decimal_digit (n / 10) (omega arith)))
+
+two_plain : (z : ℤ) → 10 ≤ nat_abs z → nat_abs z < 100 → lt_z z (pos 0) ≡ false → (48 + nat_abs z / 10) ∷ (48 + nat_abs z % 10) ∷ [] ≡ signed_decimal z
+two_plain (pos n) low high sign = two_digits n low high
+two_plain (negsuc n) low high sign = absurd (both_ways true sign refl)
+
+two_minus : (z : ℤ) → 10 ≤ nat_abs z → nat_abs z < 100 → lt_z z (pos 0) ≡ true → 45 ∷ (48 + nat_abs z / 10) ∷ (48 + nat_abs z % 10) ∷ [] ≡ signed_decimal z
+two_minus (pos n) low high sign = absurd (omega (arith, ints))
+two_minus (negsuc n) low high sign = ap (λ ds. 45 ∷ ds) (two_digits (suc n) low high)
+
+module _ (z : ℤ) (z-fits : SFits w32 z) (magnitude : ℕ) (is : magnitude ≡ nat_abs (to_z w32 (of_z w32 z))) (low : 10 ≤ magnitude) (high : magnitude < 100) where
+  is-abs : magnitude ≡ nat_abs z
+  is-abs = is ∙ ap nat_abs (to_z-of_z w32 z z-fits)
+
+  pub plain_two : lt_z (to_z w32 (of_z w32 z)) (pos 0) ≡ false → (48 + magnitude / 10) ∷ (48 + magnitude % 10) ∷ [] ≡ signed_decimal z
+  plain_two sign =
+      ap (λ n. (48 + n / 10) ∷ (48 + n % 10) ∷ []) is-abs
+      ∙ two_plain z (omega (arith, is-abs)) (omega (arith, is-abs)) (ap (λ (x : ℤ). lt_z x (pos 0)) (sym (to_z-of_z w32 z z-fits)) ∙ sign)
+
+  pub minus_two : lt_z (to_z w32 (of_z w32 z)) (pos 0) ≡ true → 45 ∷ (48 + magnitude / 10) ∷ (48 + magnitude % 10) ∷ [] ≡ signed_decimal z
+  minus_two sign =
+      ap (λ n. 45 ∷ (48 + n / 10) ∷ (48 + n % 10) ∷ []) is-abs
+      ∙ two_minus z (omega (arith, is-abs)) (omega (arith, is-abs)) (ap (λ (x : ℤ). lt_z x (pos 0)) (sym (to_z-of_z w32 z z-fits)) ∙ sign)
+
+-- an item: a space stands before a later one
+pub first_item : (at : ℕ) (z : ℤ) (text : List ℕ) → at ≡ 0 → text ≡ signed_decimal z → text ≡ item at z
+first_item at z text first is = is ∙ sym (cond-true _ _ _ (eq-eqb at 0 first))
+
+pub later_item : (at : ℕ) (z : ℤ) (text : List ℕ) → (at ≡ 0 → ⊥) → text ≡ signed_decimal z → 32 ∷ text ≡ item at z
+later_item at z text later is = ap (λ ds. 32 ∷ ds) is ∙ sym (cond-false _ _ _ (ne_eqb at 0 later))
+
 module _ (at : ℕ) (z : ℤ) (z-fits : SFits w32 z) (low : pos 0 ≤ℤ z) (high : z <ℤ pos 10) where
   abbrev digit : ℕ
   digit = 48 + nat_abs (to_z w32 (of_z w32 z))
@@ -42,10 +75,10 @@ module _ (at : ℕ) (z : ℤ) (z-fits : SFits w32 z) (low : pos 0 ≤ℤ z) (hig
   digit_text = ap (λ (x : ℤ). (48 + nat_abs x) ∷ []) (to_z-of_z w32 z z-fits) ∙ one_digit z low high
 
   pub first_digit : at ≡ 0 → digit ∷ [] ≡ item at z
-  first_digit first = digit_text ∙ sym (cond-true _ _ _ (eq-eqb at 0 first))
+  first_digit first = first_item at z (digit ∷ []) first digit_text
 
   pub later_digit : (at ≡ 0 → ⊥) → 32 ∷ digit ∷ [] ≡ item at z
-  later_digit later = ap (λ ds. 32 ∷ ds) digit_text ∙ sym (cond-false _ _ _ (ne_eqb at 0 later))
+  later_digit later = later_item at z (digit ∷ []) later digit_text
 
 pub spaced_push : (zs : List ℤ) (z : ℤ) → spaced (zs ++ z ∷ []) ≡ spaced zs ++ item (length (spaced zs)) z
 spaced_push zs z = fold_push (λ text z. text ++ item (length text) z) [] zs z

@@ -24,18 +24,25 @@ pub trait Printable: Theory {
         ensures after { out.new ≡ print_leaves (Self.Theory.meaning self.now).codes code out.old (spaced (values self.now code)) };
 }
 
-// A value in decimal: a negative one of one digit without formatting.
+// A value in decimal: one of two digits without formatting.
 fn put_value(out: &mut [u8], at: usize, value: i32) -> Option<usize>
     ensures answer { result ≡ put_answer (length out.old) at (signed_decimal value) }
     ensures after { out.new ≡ put_leaves out.old at (signed_decimal value) }
 {
-    if (-9..0).contains(&value) {
-        return put_text(out, at, &[b'-', b'0' + value.unsigned_abs() as u8]);
+    let magnitude = value.unsigned_abs();
+    if !(10..100).contains(&magnitude) {
+        return put_number(out, at, value);
     }
-    put_number(out, at, value)
+    let tens = b'0' + (magnitude / 10) as u8;
+    let ones = b'0' + (magnitude % 10) as u8;
+    if value < 0 {
+        put_text(out, at, &[b'-', tens, ones])
+    } else {
+        put_text(out, at, &[tens, ones])
+    }
 }
 
-// `put_item` by formatting, out of line: a value of one digit needs none.
+// `put_item` of any value, out of line: one of one digit needs less.
 #[inline(never)]
 fn format_item(out: &mut [u8], at: usize, value: i32) -> Option<usize>
     ensures answer { result ≡ put_answer (length out.old) at (item at value) }
@@ -58,15 +65,23 @@ pub fn put_item(out: &mut [u8], at: usize, value: i32) -> Option<usize>
     ensures answer { result ≡ put_answer (length out.old) at (item at value) }
     ensures after { out.new ≡ put_leaves out.old at (item at value) }
 {
-    if !(0..10).contains(&value) {
-        return format_item(out, at, value);
+    if (0..10).contains(&value) {
+        let digit = b'0' + value as u8;
+        return if at == 0 {
+            put_text(out, at, &[digit])
+        } else {
+            put_text(out, at, &[b' ', digit])
+        };
     }
-    let digit = b'0' + value as u8;
-    if at == 0 {
-        put_text(out, at, &[digit])
-    } else {
-        put_text(out, at, &[b' ', digit])
+    if (-9..0).contains(&value) {
+        let digit = b'0' + value.unsigned_abs() as u8;
+        return if at == 0 {
+            put_text(out, at, &[b'-', digit])
+        } else {
+            put_text(out, at, &[b' ', b'-', digit])
+        };
     }
+    format_item(out, at, value)
 }
 
 /// Writes the values of a code, separated by one space, and returns their length: what a `print` does.
